@@ -1,0 +1,74 @@
+// The table of names, each for one text.
+ghost use Rattle.std.specs.Prelude.{◌≡◌, [], IfSome, IfNone, IfOk, OnOk, OnErr};
+ghost use Rattle.ef_base.specs.Texts.{AllDiffer, Extends, Gains, HasName, IsAbsent, IsNameOf, Texts};
+
+use crate::{Name, NoMemory};
+use indexmap::IndexSet;
+use std::alloc::Global;
+use std::marker::Model;
+
+/// A table of names. Contracts see it as the list of its texts, in order of their first `intern`; no text
+/// stands twice. The table only grows, so what is said of a name holds in every later table.
+#[derive(Drop)]
+pub struct Names {
+    alloc: Global,
+    texts: IndexSet<String>,
+}
+
+impl Model for Names {
+    ghost use Rattle.std.specs.Prelude.{List, ℕ, map, string_bytes};
+    ghost use Rattle.ef_base.specs.Texts.{AllDiffer};
+
+    ghost Value = { List (List ℕ) };
+
+    ghost view = { λ n. map string_bytes n.texts.keys };
+
+    ghost invariant = { λ n. AllDiffer (map string_bytes n.texts.keys) };
+}
+
+impl Names {
+    /// A table without names.
+    pub fn new(alloc: Global) -> Names
+        ensures { result ≡ [] }
+    {
+        Names {
+            alloc,
+            texts: IndexSet::new(alloc),
+        }
+    }
+
+    /// The name of this text, if the table has one. It takes no memory.
+    pub fn find(&self, text: &str) -> Option<Name>
+        ensures found { IfSome result (λ name. (all : Texts) → Extends self.now all → IsNameOf all name text.now) }
+        ensures none { IfNone result (IsAbsent text.now self.now) }
+    {
+        match self.texts.get_full(text) {
+            Some((index, _)) => Some(Name { index }),
+            None => None,
+        }
+    }
+
+    /// The text of a name of this table.
+    pub fn text(&self, name: Name) -> &str
+        requires { HasName self.now name }
+        ensures { (all : Texts) → Extends self.now all → IsNameOf all name result.now }
+    {
+        self.texts.get_index(name.index).unwrap().as_str()
+    }
+
+    /// The name of this text, which is put into the table where it is not there.
+    pub fn intern(&mut self, text: &str) -> Result<Name, NoMemory>
+        ensures kept { Extends self.old self.new }
+        ensures named { IfOk result (λ name. (all : Texts) → Extends self.new all → IsNameOf all name text.now) }
+        ensures table { OnOk result (Gains text.now self.old self.new) }
+        ensures differ { AllDiffer self.new }
+        ensures err { OnErr result (self.new ≡ self.old) }
+    {
+        if let Some(name) = self.find(text) {
+            return Ok(name);
+        }
+        let kept = String::from_str(self.alloc, text)?;
+        let (index, _) = self.texts.insert_full(kept)?;
+        Ok(Name { index })
+    }
+}

@@ -1,0 +1,138 @@
+-- The modules that are built so far, and the limits on them.
+use Rattle.std.specs.Prelude.{ℕ, ◌+◌, ◌≤◌, ◌≡◌, ◌≢◌, ◌⊎◌, List, [], ◌∷◌, ◌++◌, codes, length, map, Contains}
+use Rattle.ef_base.specs.declared.name.Name.{Name}
+use Rattle.ef_base.specs.Texts.{Texts, text}
+use Rattle.ef_forms.specs.declared.form.FunctionRef.{FunctionRef}
+use Rattle.ef_forms.specs.declared.tables.FunctionName.{FunctionName}
+use Rattle.ef_forms.specs.Tree.{Tree, Shape, Trees, Guards, Clauses, FunctionTree, FormTree, PlacedTree, ModuleTree, tree, int, atom, var, call, remote, end, more, no_guard, or_guard, no_clauses, clause, module_name, export, function, count}
+
+-- what a module defines and exports, in order of the source
+
+abbrev pub name_of : FunctionRef → FunctionName
+name_of r = record { name = r.name; arity = r.arity }
+
+abbrev pub functions_in : List PlacedTree → List FunctionTree
+functions_in [] = []
+functions_in (f ∷ fs) = add f.form (functions_in fs)
+  where
+    add : FormTree → List FunctionTree → List FunctionTree
+    add (module_name n) gs = gs
+    add (export refs) gs = gs
+    add (function g) gs = g ∷ gs
+
+abbrev pub exports_in : List PlacedTree → List FunctionName
+exports_in [] = []
+exports_in (f ∷ fs) = add f.form (exports_in fs)
+  where
+    add : FormTree → List FunctionName → List FunctionName
+    add (module_name n) rs = rs
+    add (export refs) rs = map name_of refs ++ rs
+    add (function g) rs = rs
+
+abbrev pub key_of : FunctionTree → FunctionName
+key_of f = record { name = f.name; arity = f.arity }
+
+abbrev pub defined_in : List PlacedTree → List FunctionName
+defined_in fs = map key_of (functions_in fs)
+
+-- `module_info/0` and `module_info/1`, which each module has
+abbrev pub IsModuleInfo : Texts → FunctionName → Type 0
+IsModuleInfo all f = (text all f.name ≡ codes "module_info") × (f.arity ≤ 1)
+
+abbrev pub IsDefined : Texts → List FunctionName → FunctionName → Type 0
+IsDefined all defined f = Contains defined f ⊎ IsModuleInfo all f
+
+-- nothing stands twice
+abbrev pub IsDistinct : {A : Type 0} → List A → Type 0
+IsDistinct [] = Unit {0}
+IsDistinct (x ∷ xs) = (Contains xs x → ⊥) × IsDistinct xs
+
+abbrev pub Each : {A : Type 0} → (A → Type 0) → List A → Type 0
+Each P [] = Unit {0}
+Each P (x ∷ xs) = P x × Each P xs
+
+-- ---- calls of functions of the module by atoms, and remote calls of two atoms, but none of `erlang`
+
+abbrev pub IsCallOf : Texts → List FunctionName → Tree → ℕ → Type 0
+IsCallOf all defined (tree p (atom n)) arity = IsDefined all defined (record { name = n; arity = arity })
+IsCallOf all defined _ arity = ⊥
+
+abbrev pub IsForeignModule : Texts → Tree → Type 0
+IsForeignModule all (tree p (atom n)) = text all n ≢ codes "erlang"
+IsForeignModule all _ = ⊥
+
+abbrev pub IsAtom : Tree → Type 0
+IsAtom (tree p (atom n)) = Unit {0}
+IsAtom _ = ⊥
+
+module _ (all : Texts) (defined : List FunctionName) where
+  abbrev mutual
+    pub IsBuiltTree : Tree → Type 0
+    IsBuiltTree (tree p e) = IsBuiltShape e
+
+    pub IsBuiltShape : Shape → Type 0
+    IsBuiltShape (int i) = Unit {0}
+    IsBuiltShape (atom n) = Unit {0}
+    IsBuiltShape (var n) = Unit {0}
+    IsBuiltShape (call f es) = IsCallOf all defined f (count es) × AreBuilt es
+    IsBuiltShape (remote m f es) = IsForeignModule all m × IsAtom f × AreBuilt es
+
+    pub AreBuilt : Trees → Type 0
+    AreBuilt end = Unit {0}
+    AreBuilt (more e es) = IsBuiltTree e × AreBuilt es
+
+-- ---- one clause without a guard, whose parameters are distinct variables
+
+-- the trees are variables of these names
+abbrev pub AreVariables : Trees → List Name → Type 0
+AreVariables end [] = Unit {0}
+AreVariables (more (tree p (var n)) es) (m ∷ ns) = (m ≡ n) × AreVariables es ns
+AreVariables _ _ = ⊥
+
+abbrev pub IsBuiltClauses : Texts → List FunctionName → Clauses → Type 0
+IsBuiltClauses all defined (clause p ps no_guard body no_clauses) =
+    ((names : List Name) × AreVariables ps names × IsDistinct names) × AreBuilt all defined body
+IsBuiltClauses all defined _ = ⊥
+
+abbrev pub IsBuiltFunction : Texts → List FunctionName → FunctionTree → Type 0
+IsBuiltFunction all defined f = (IsModuleInfo all (key_of f) → ⊥) × IsBuiltClauses all defined f.clauses
+
+-- a module that is built: what it exports and calls is defined, and nothing is defined or exported twice
+pub record IsBuilt (all : Texts) (m : ModuleTree) : Type 0 where
+  pub functions : IsDistinct (defined_in m.forms)
+  pub exports : IsDistinct (exports_in m.forms)
+  pub exported : Each (IsDefined all (defined_in m.forms)) (exports_in m.forms)
+  pub bodies : Each (IsBuiltFunction all (defined_in m.forms)) (functions_in m.forms)
+
+-- ---- limits
+
+-- the most parameters, arguments, or the greatest arity of a function that is mentioned
+abbrev pub most_arguments : ℕ
+most_arguments = 255
+
+abbrev pub most_functions : ℕ
+most_functions = 65536
+
+abbrev mutual
+  pub IsNarrow : Tree → Type 0
+  IsNarrow (tree p e) = IsNarrowShape e
+
+  pub IsNarrowShape : Shape → Type 0
+  IsNarrowShape (int i) = Unit {0}
+  IsNarrowShape (atom n) = Unit {0}
+  IsNarrowShape (var n) = Unit {0}
+  IsNarrowShape (call f es) = (count es ≤ most_arguments) × IsNarrow f × AreNarrow es
+  IsNarrowShape (remote m f es) = (count es ≤ most_arguments) × IsNarrow m × IsNarrow f × AreNarrow es
+
+  pub AreNarrow : Trees → Type 0
+  AreNarrow end = Unit {0}
+  AreNarrow (more e es) = IsNarrow e × AreNarrow es
+
+abbrev pub AreNarrowGuards : Guards → Type 0
+AreNarrowGuards no_guard = Unit {0}
+AreNarrowGuards (or_guard es gs) = AreNarrow es × AreNarrowGuards gs
+
+abbrev pub AreNarrowClauses : Clauses → Type 0
+AreNarrowClauses no_clauses = Unit {0}
+AreNarrowClauses (clause p ps g body cs) =
+    (count ps ≤ most_arguments) × AreNarrow ps × AreNarrowGuards g × AreNarrow body × AreNarrowClauses cs

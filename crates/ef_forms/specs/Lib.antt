@@ -1,0 +1,5 @@
+pub mod Tree
+pub mod Plain
+pub mod Built
+pub mod OfTable
+pub mod Ways

@@ -1,0 +1,125 @@
+-- Which names may be bound after an expression, and which uses of names are faults, as far as trees are built.
+-- A way is the set of names that are bound on it. `ways e s` lists the ways that lead on from `e`, each grown from the
+-- one set `s` with which it starts.
+use Rattle.std.specs.Prelude.{ℕ, List, [], ◌∷◌, ◌++◌, Bool, true, false, ◌||◌, ◌==◌, map, if◌then◌else◌}
+use Rattle.std.specs.List.{flat_map, list_any}
+use Rattle.ef_base.specs.declared.name.Name.{Name}
+use Rattle.ef_base.specs.declared.fault.Place.{Place}
+use Rattle.ef_base.specs.declared.fault.Fault.{Fault}
+use Rattle.ef_base.specs.Texts.{Texts, text}
+use Rattle.ef_forms.specs.Tree.{Tree, Shape, Trees, Clauses, FunctionTree, tree, int, atom, var, call, remote, end, more, no_clauses, clause}
+
+-- a set of names, each by its number
+abbrev pub NameSet : Type 0
+NameSet = ℕ → Bool
+
+abbrev pub no_names : NameSet
+no_names = λ y. false
+
+abbrev pub one_name : Name → NameSet
+one_name n = λ y. n.index == y
+
+abbrev pub union : NameSet → NameSet → NameSet
+union s t = λ y. s y || t y
+
+-- the sets that may be bound after something that starts from one set
+abbrev pub Way : Type 0
+Way = NameSet → List NameSet
+
+abbrev pub stay : Way
+stay s = s ∷ []
+
+abbrev pub bind : NameSet → Way
+bind t s = union s t ∷ []
+
+-- one after the other
+abbrev pub before : Way → Way → Way
+before f g s = flat_map g (f s)
+
+-- the unions of one result of each
+abbrev pub pairs : List NameSet → List NameSet → List NameSet
+pairs a b = flat_map (λ s. map (union s) b) a
+
+-- side by side: both start from the same set, and do not see each other's names
+abbrev pub beside : Way → Way → Way
+beside f g s = pairs (f s) (g s)
+
+-- the variables of trees
+abbrev mutual
+  pub names : Tree → NameSet
+  names (tree p e) = shape_names e
+
+  pub shape_names : Shape → NameSet
+  shape_names (int i) = no_names
+  shape_names (atom n) = no_names
+  shape_names (var n) = one_name n
+  shape_names (call f es) = union (names f) (all_names es)
+  shape_names (remote m f es) = union (names m) (union (names f) (all_names es))
+
+  pub all_names : Trees → NameSet
+  all_names end = no_names
+  all_names (more e es) = union (names e) (all_names es)
+
+-- after a use the name counts as bound
+abbrev mutual
+  pub ways : Tree → Way
+  ways (tree p e) = shape_ways e
+
+  pub shape_ways : Shape → Way
+  shape_ways (int i) = stay
+  shape_ways (atom n) = stay
+  shape_ways (var n) = bind (one_name n)
+  shape_ways (call f es) = beside (ways f) (side_by_side es)
+  shape_ways (remote m f es) = beside (ways m) (beside (ways f) (side_by_side es))
+
+  pub side_by_side : Trees → Way
+  side_by_side end = stay
+  side_by_side (more e es) = beside (ways e) (side_by_side es)
+
+-- a body goes from left to right
+abbrev pub body_ways : Trees → Way
+body_ways end = stay
+body_ways (more e es) = before (ways e) (body_ways es)
+
+-- ---- faults
+
+-- the name is bound on some of these ways
+abbrev pub on_some : Name → List NameSet → Bool
+on_some n sets = list_any (λ s. s n.index) sets
+
+module _ (all : Texts) where
+  abbrev pub unbound : Place → Name → Fault
+  unbound p n = record { place = p; code = 451; words = text all n }
+
+  -- a use is unbound where the name is bound on no way
+  abbrev pub use_faults : Place → Name → List NameSet → List Fault
+  use_faults p n sets = if on_some n sets then [] else (unbound p n ∷ [])
+
+  abbrev mutual
+    pub faults : Tree → List NameSet → List Fault
+    faults (tree p e) sets = shape_faults p e sets
+
+    pub shape_faults : Place → Shape → List NameSet → List Fault
+    shape_faults p (int i) sets = []
+    shape_faults p (atom n) sets = []
+    shape_faults p (var n) sets = use_faults p n sets
+    shape_faults p (call f es) sets = faults f sets ++ all_faults es sets
+    shape_faults p (remote m f es) sets = faults m sets ++ (faults f sets ++ all_faults es sets)
+
+    pub all_faults : Trees → List NameSet → List Fault
+    all_faults end sets = []
+    all_faults (more e es) sets = faults e sets ++ all_faults es sets
+
+  abbrev pub body_faults : Trees → List NameSet → List Fault
+  body_faults end sets = []
+  body_faults (more e es) sets = faults e sets ++ body_faults es (flat_map (ways e) sets)
+
+  -- the names of the patterns are bound first
+  abbrev pub clauses_faults : Clauses → List NameSet → List Fault
+  clauses_faults no_clauses sets = []
+  clauses_faults (clause p ps g body cs) sets =
+      body_faults body (flat_map (bind (all_names ps)) sets) ++ clauses_faults cs sets
+
+  -- a function starts with no name bound
+  abbrev pub function_faults : FunctionTree → List Fault
+  function_faults f = clauses_faults f.clauses (no_names ∷ [])

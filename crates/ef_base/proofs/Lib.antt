@@ -1,3 +1,4 @@
 pub mod Sorted
+pub mod FaultLaws
 pub mod Tables
 pub mod Searches

@@ -14,3 +14,6 @@ pub use fault_list::FaultList;
 pub use memory::NoMemory;
 pub use name::Name;
 pub use names::Names;
+
+#[cfg(test)]
+mod tests;

@@ -1,33 +1,32 @@
 -- The modules that are built so far, and the limits on them.
-use Rattle.std.specs.Prelude.{ℕ, ◌+◌, ◌≤◌, ◌≡◌, ◌≢◌, ◌⊎◌, List, [], ◌∷◌, ◌++◌, codes, length, map, Contains}
+use Rattle.std.specs.Prelude.{ℕ, ◌+◌, ◌≤◌, ◌≡◌, ◌≢◌, ◌⊎◌, List, [], ◌∷◌, ◌++◌, codes, map}
+use Rattle.std.specs.List.{flat_map}
 use Rattle.ef_base.specs.declared.name.Name.{Name}
 use Rattle.ef_base.specs.Texts.{Texts, text}
 use Rattle.ef_forms.specs.declared.form.FunctionRef.{FunctionRef}
 use Rattle.ef_forms.specs.declared.tables.FunctionName.{FunctionName}
 use Rattle.ef_forms.specs.Tree.{Tree, Shape, Trees, Guards, Clauses, FunctionTree, FormTree, PlacedTree, ModuleTree, tree, int, atom, var, call, remote, end, more, no_guard, or_guard, no_clauses, clause, module_name, export, function, count}
 
--- what a module defines and exports, in order of the source
+-- ---- what a module defines and exports, in order of the source
 
 abbrev pub name_of : FunctionRef → FunctionName
 name_of r = record { name = r.name; arity = r.arity }
 
+abbrev pub functions_of : FormTree → List FunctionTree
+functions_of (module_name n) = []
+functions_of (export refs) = []
+functions_of (function g) = g ∷ []
+
 abbrev pub functions_in : List PlacedTree → List FunctionTree
-functions_in [] = []
-functions_in (f ∷ fs) = add f.form (functions_in fs)
-  where
-    add : FormTree → List FunctionTree → List FunctionTree
-    add (module_name n) gs = gs
-    add (export refs) gs = gs
-    add (function g) gs = g ∷ gs
+functions_in fs = flat_map (λ (f : PlacedTree). functions_of f.form) fs
+
+abbrev pub exports_of : FormTree → List FunctionName
+exports_of (module_name n) = []
+exports_of (export refs) = map name_of refs
+exports_of (function g) = []
 
 abbrev pub exports_in : List PlacedTree → List FunctionName
-exports_in [] = []
-exports_in (f ∷ fs) = add f.form (exports_in fs)
-  where
-    add : FormTree → List FunctionName → List FunctionName
-    add (module_name n) rs = rs
-    add (export refs) rs = map name_of refs ++ rs
-    add (function g) rs = rs
+exports_in fs = flat_map (λ (f : PlacedTree). exports_of f.form) fs
 
 abbrev pub key_of : FunctionTree → FunctionName
 key_of f = record { name = f.name; arity = f.arity }
@@ -39,13 +38,18 @@ defined_in fs = map key_of (functions_in fs)
 abbrev pub IsModuleInfo : Texts → FunctionName → Type 0
 IsModuleInfo all f = (text all f.name ≡ codes "module_info") × (f.arity ≤ 1)
 
-abbrev pub IsDefined : Texts → List FunctionName → FunctionName → Type 0
-IsDefined all defined f = Contains defined f ⊎ IsModuleInfo all f
+-- the element stands in the list
+abbrev pub IsAmong : {A : Type 0} → A → List A → Type 0
+IsAmong x [] = ⊥
+IsAmong x (y ∷ ys) = (y ≡ x) ⊎ IsAmong x ys
 
 -- nothing stands twice
 abbrev pub IsDistinct : {A : Type 0} → List A → Type 0
 IsDistinct [] = Unit {0}
-IsDistinct (x ∷ xs) = (Contains xs x → ⊥) × IsDistinct xs
+IsDistinct (x ∷ xs) = (IsAmong x xs → ⊥) × IsDistinct xs
+
+abbrev pub IsDefined : Texts → List FunctionName → FunctionName → Type 0
+IsDefined all defined f = IsAmong f defined ⊎ IsModuleInfo all f
 
 abbrev pub Each : {A : Type 0} → (A → Type 0) → List A → Type 0
 Each P [] = Unit {0}

@@ -53,6 +53,8 @@ fn bytes_and_characters_keep_their_items(rt: HostRuntime) -> Result<(), Fail> {
     let bytes = Bytes::from_vec(b"ab".to_vec(rt.alloc())?);
     assert_eq!(rt; bytes.as_slice(), b"ab".as_slice());
     assert_eq!(rt; bytes.into_vec().as_slice(), b"ab".as_slice());
+    let copy = Bytes::from_slice(rt.alloc(), b"cd")?;
+    assert_eq!(rt; copy.as_slice(), b"cd".as_slice());
     let chars = Chars::from_vec([97, 955].to_vec(rt.alloc())?);
     assert_eq!(rt; chars.as_slice(), [97, 955].as_slice());
     Ok(())

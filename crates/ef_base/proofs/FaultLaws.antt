@@ -15,7 +15,7 @@ use Rattle.ef_base.specs.declared.fault.Place.{Place}
 use Rattle.ef_base.specs.declared.fault.Fault.{Fault}
 use Rattle.ef_base.specs.Faults.{insert_fault, set_of}
 use Rattle.ef_base.specs.Order.{place_cmp, fault_cmp}
-use Rattle.ef_base.proofs.Sorted.{fault_total}
+use Rattle.ef_base.proofs.Sorted.{fault_total, set_of-sorted, sorted_set_of}
 
 -- ---- over any order that tells all apart
 
@@ -115,3 +115,8 @@ insert_swapped f g l = swapped fault_total same_fault f g l
 pub set_of-push : (fs : List Fault) (f : Fault) → insert_fault f (set_of fs) ≡ set_of (fs ++ f ∷ [])
 set_of-push [] f = refl
 set_of-push (g ∷ fs) f = insert_swapped f g (set_of fs) ∙ ap (insert_fault g) (set_of-push fs f)
+
+-- pushing a set is pushing the list that it was made of
+pub set_of-append : (fs gs : List Fault) → set_of (fs ++ set_of gs) ≡ set_of (fs ++ gs)
+set_of-append [] gs = set_of-sorted (set_of gs) (sorted_set_of gs)
+set_of-append (f ∷ fs) gs = ap (insert_fault f) (set_of-append fs gs)

@@ -1,4 +1,4 @@
-//! The parser of expressions and clauses.
+//! The scanner: a file's bytes to the tokens of its forms, and exactly those of its one cut into lexemes.
 #![tactic(auto)]
 
 pub fn placeholder() -> bool {

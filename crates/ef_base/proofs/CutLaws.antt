@@ -3,6 +3,7 @@ use Rattle.std.specs.Prelude.{ℕ, Bool, true, false, List, [], ◌∷◌, ◌++
 use Rattle.std.proofs.Common.{ap, ◌∙◌, sym, subst, inl, inr, append_assoc, append-nil}
 use Rattle.ef_base.specs.Positions.{Position, next_position, position_after}
 use Rattle.ef_base.specs.Cut.{Placed, LastGap, Longest, Cuts}
+use Rattle.ef_base.specs.Taken.{Took}
 
 -- the text has a first character, and it is such
 abbrev pub Begins : (ℕ → Bool) → Bool → List ℕ → Type 0
@@ -19,13 +20,6 @@ pub record OneCut (L : Type 0) (Gap : List ℕ → Type 0) (Spelled : L → List
   pub gap : (c : ℕ) (cs : List ℕ) → Gap (c ∷ cs) → begins_gap c ≡ true
   pub lexeme : (l : L) (front rest : List ℕ) → Spelled l front rest → Begins begins_gap false front
   pub one : (l m : L) (front rest : List ℕ) → Spelled l front rest → Spelled m front rest → l ≡ m
-
--- the text, which begins at the first position, is these lexemes with gaps between, a gap, and this rest at the second
-abbrev pub Took : {L : Type 0} → (List ℕ → Type 0) → (L → List ℕ → List ℕ → Type 0) → Position → List ℕ → List (Placed L) → Position → List ℕ → Type 0
-Took Gap Spelled at text [] there rest = (gap : List ℕ) × (text ≡ gap ++ rest) × Gap gap × (there ≡ position_after at gap)
-Took Gap Spelled at text (l ∷ ls) there rest =
-    (gap front more : List ℕ) × (text ≡ gap ++ (front ++ more)) × Gap gap × (l.at ≡ position_after at gap)
-    × Spelled l.lexeme front more × Longest Spelled front more × Took Gap Spelled (position_after l.at front) more ls there rest
 
 pub position_after-append : (at : Position) (a b : List ℕ) → position_after at (a ++ b) ≡ position_after (position_after at a) b
 position_after-append at [] b = refl

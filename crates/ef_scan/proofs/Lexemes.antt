@@ -10,7 +10,8 @@ use Rattle.ef_token.specs.declared.word.Sym.TheVariants as symbols
 use Rattle.ef_token.specs.Words.{word_text, sym_text}
 use Rattle.ef_token.specs.Lexeme as x
 use Rattle.ef_token.specs.Lexeme.{Lexeme, Gap, Spelled, EndsForm, Each, BeginsAndGoesOn, is_lower, is_upper, is_digit, is_name_part, is_white, is_within}
-use Rattle.ef_scan.proofs.Spellings.{sort, BeginsAs, is_plain, word_facts, symbol_facts, one_word, one_symbol}
+use Rattle.ef_scan.specs.Pieces.{Stops}
+use Rattle.ef_scan.proofs.Spellings.{sort, BeginsAs, word_facts, symbol_facts, one_word, one_symbol}
 
 abbrev pub sort_of : Lexeme → ℕ
 sort_of (x.atom chars) = 0
@@ -66,7 +67,7 @@ one_lexeme : (l m : Lexeme) (front rest : List ℕ) → Spelled l front rest →
 one_lexeme l m front rest h k =
     one_of_sort l m front rest (same_sort (sort_of l) (sort_of m) front (begins_as l front rest h) (begins_as m front rest k)) h k
 
-gap_join : (a b : List ℕ) → Gap a → Gap b → Gap (a ++ b)
+pub gap_join : (a b : List ℕ) → Gap a → Gap b → Gap (a ++ b)
 gap_join a b x.none k = k
 gap_join a b (x.white c cs w h) k = x.white c (cs ++ b) w (gap_join cs b h k)
 
@@ -103,10 +104,6 @@ cut_facts = record {
 -- what a lexeme of the sort goes on with
 abbrev pub goes_on : ℕ → ℕ → Bool
 goes_on n c = if n == 2 then is_digit c else is_name_part c
-
-abbrev pub Stops : (ℕ → Bool) → List ℕ → Type 0
-Stops p [] = Unit {0}
-Stops p (c ∷ cs) = p c ≡ false
 
 tail_each : (p : ℕ → Bool) (q : ℕ → Bool) (c : ℕ) (cs chars : List ℕ) → c ∷ cs ≡ chars → BeginsAndGoesOn p q chars → Each q cs
 tail_each p q c cs [] e h = absurd h

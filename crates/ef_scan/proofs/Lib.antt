@@ -1,2 +1,5 @@
 pub mod Spellings
 pub mod Lexemes
+pub mod Plain
+pub mod Runs
+pub mod Cursors

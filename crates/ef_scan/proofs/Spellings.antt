@@ -6,7 +6,8 @@ use Rattle.ef_token.specs.declared.word.Word.TheVariants as word
 use Rattle.ef_token.specs.declared.word.Sym.{Sym}
 use Rattle.ef_token.specs.declared.word.Sym.TheVariants as symbol
 use Rattle.ef_token.specs.Words.{word_text, sym_text}
-use Rattle.ef_token.specs.Lexeme.{is_lower, is_upper, is_digit, is_name_part, is_white, is_within, Each}
+use Rattle.ef_token.specs.Lexeme.{is_lower, is_upper, is_digit, is_name_part, is_white, Each}
+use Rattle.ef_scan.specs.Pieces.{is_plain}
 
 -- a text as one number, its characters as digits
 abbrev pub packed : List ℕ → ℕ
@@ -20,9 +21,6 @@ sort c = if is_lower c then 0 else (if is_upper c then 1 else (if is_digit c the
 abbrev pub BeginsAs : ℕ → List ℕ → Type 0
 BeginsAs n [] = ⊥
 BeginsAs n (c ∷ cs) = (sort c ≡ n) × (is_white c ≡ false)
-
-abbrev pub is_plain : ℕ → Bool
-is_plain c = is_within 33 126 c
 
 abbrev word_at : ℕ → Option Word
 word_at n =

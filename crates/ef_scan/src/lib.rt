@@ -1,6 +1,12 @@
 //! The scanner: a file's bytes to the tokens of its forms, and exactly those of its one cut into lexemes.
 #![tactic(auto)]
 
+mod class;
+mod cursor;
+mod part;
+mod piece;
+mod symbol;
+
 pub fn placeholder() -> bool {
     true
 }

@@ -25,7 +25,7 @@ behind_one first second c e w inside position lines columns =
     }
 
 pub behind_none : (first : Cursor) → IsInText first → IsBehindGap first first
-behind_none first in_text = record { gap = []; is_gap = none; chars_are = refl; position = refl; in_text = inside }
+behind_none first inside = record { gap = []; is_gap = none; chars_are = refl; position = refl; short = omega arith; in_text = inside }
 
 pub behind_more : (first second third : Cursor) → IsBehindGap first second → IsBehindWhite second third → IsBehindGap first third
 behind_more first second third h k = record {
@@ -33,6 +33,7 @@ behind_more first second third h k = record {
     is_gap = gap_join h.gap (k.c ∷ []) h.is_gap (white k.c [] k.white none);
     chars_are = h.chars_are ∙ ap (λ t. h.gap ++ t) k.chars_are ∙ sym (append_assoc h.gap (k.c ∷ []) (chars third.rest.now));
     position = k.position ∙ ap (λ p. next_position p k.c) h.position ∙ sym (position_after-append (position_of first) h.gap (k.c ∷ []));
+    short = let a = h.short in let b = k.less in omega arith;
     in_text = k.in_text;
 }
 

@@ -3,3 +3,7 @@ pub mod Lexemes
 pub mod Plain
 pub mod Runs
 pub mod Cursors
+pub mod Found
+pub mod Symbols
+pub mod KindOf
+pub mod Gathering

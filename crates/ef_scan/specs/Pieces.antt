@@ -49,6 +49,12 @@ lexeme_of (piece.Word w) = x.word w
 lexeme_of (piece.Sym s) = x.symbol s
 lexeme_of piece.Dot = x.full_stop
 
+-- a name of a lexeme is of ASCII characters
+abbrev pub HasPlainName : Piece → Type 0
+HasPlainName (piece.Atom name) = Each is_plain name.now
+HasPlainName (piece.Var name) = Each is_plain name.now
+HasPlainName _ = Unit {0}
+
 -- what of a lexeme is built
 abbrev pub IsBuilt : Lexeme → Type 0
 IsBuilt (x.atom chars) = length chars ≤ 255
@@ -99,6 +105,7 @@ pub record IsBehindGap (first second : Cursor) : Type 0 where
   pub is_gap : Gap gap
   pub chars_are : chars first.rest.now ≡ gap ++ chars second.rest.now
   pub position : position_of second ≡ position_after (position_of first) gap
+  pub short : length second.rest.now ≤ length first.rest.now
   pub in_text : IsInText second
 
 -- the second stands so many characters behind the first, on the same line

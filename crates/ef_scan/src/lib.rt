@@ -3,6 +3,9 @@
 
 mod class;
 mod cursor;
+mod gathered;
+mod kind;
+mod lexeme;
 mod part;
 mod piece;
 mod symbol;

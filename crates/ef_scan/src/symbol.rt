@@ -1,5 +1,6 @@
 // Symbols: the longest that a text begins with.
-ghost use Rattle.std.specs.Prelude.{◌≡◌, ◌≢◌, ◌<◌, ◌≤◌, ◌++◌, [], ◌∷◌, IfSome, IfNone, length, List, ℕ, take};
+ghost use Rattle.std.specs.Prelude.{◌≡◌, ◌≢◌, ◌<◌, ◌≤◌, ◌++◌, [], ◌∷◌, IfSome, IfNone, length};
+ghost use Rattle.ef_scan.specs.Pieces.{Fits, IsLongestSymbol};
 ghost use Rattle.ef_token.specs.Words.{sym_text};
 ghost use Rattle.ef_token.specs.declared.word.Sym.{Sym};
 
@@ -74,4 +75,56 @@ fn of_one(a: u8) -> Option<Sym>
         b'?' => Some(Sym::Question),
         _ => None,
     }
+}
+
+/// A symbol and the number of its characters.
+#[derive(Clone, Copy)]
+pub(crate) struct Symbol {
+    pub sym: Sym,
+    pub width: usize,
+}
+
+fn begins_three(text: &[u8]) -> Option<Sym>
+    ensures some { IfSome result (λ s. Fits s text.now × (length (sym_text s) ≡ 3)) }
+    ensures none { IfNone result ((s : Sym) → Fits s text.now → length (sym_text s) ≢ 3) }
+{
+    match text {
+        [a, b, c, ..] => of_three(*a, *b, *c),
+        _ => None,
+    }
+}
+
+fn begins_two(text: &[u8]) -> Option<Sym>
+    ensures some { IfSome result (λ s. Fits s text.now × (length (sym_text s) ≡ 2)) }
+    ensures none { IfNone result ((s : Sym) → Fits s text.now → length (sym_text s) ≢ 2) }
+{
+    match text {
+        [a, b, ..] => of_two(*a, *b),
+        _ => None,
+    }
+}
+
+fn begins_one(text: &[u8]) -> Option<Sym>
+    ensures some { IfSome result (λ s. Fits s text.now × (length (sym_text s) ≡ 1)) }
+    ensures none { IfNone result ((s : Sym) → Fits s text.now → length (sym_text s) ≢ 1) }
+{
+    match text {
+        [a, ..] => of_one(*a),
+        _ => None,
+    }
+}
+
+/// The longest symbol at the front of a text.
+pub(crate) fn longest_symbol(text: &[u8]) -> Option<Symbol>
+    ensures some { IfSome result (λ f. IsLongestSymbol text.now f.sym f.width) }
+    ensures none { IfNone result ((s : Sym) → Fits s text.now → ⊥) }
+{
+    if let Some(sym) = begins_three(text) {
+        return Some(Symbol { sym, width: 3 });
+    }
+    if let Some(sym) = begins_two(text) {
+        return Some(Symbol { sym, width: 2 });
+    }
+    let sym = begins_one(text)?;
+    Some(Symbol { sym, width: 1 })
 }

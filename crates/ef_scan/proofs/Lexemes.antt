@@ -81,7 +81,7 @@ gap_behind (c ∷ a) b h k = gap_behind a b (tail c a h) (tail c (a ++ b) k)
     tail : (c : ℕ) (cs : List ℕ) → Gap (c ∷ cs) → Gap cs
     tail c cs h = tail_of (c ∷ cs) c cs h refl
 
-gap_white : (c : ℕ) (cs : List ℕ) → Gap (c ∷ cs) → is_white c ≡ true
+pub gap_white : (c : ℕ) (cs : List ℕ) → Gap (c ∷ cs) → is_white c ≡ true
 gap_white c cs h = of (c ∷ cs) c cs h refl
   where
     of : (t : List ℕ) (c : ℕ) (cs : List ℕ) → Gap t → t ≡ c ∷ cs → is_white c ≡ true

@@ -7,3 +7,4 @@ pub mod Found
 pub mod Symbols
 pub mod KindOf
 pub mod Gathering
+pub mod Scanning

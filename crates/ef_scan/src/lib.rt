@@ -3,13 +3,13 @@
 
 mod class;
 mod cursor;
+mod forms;
 mod gathered;
 mod kind;
 mod lexeme;
 mod part;
 mod piece;
+
 mod symbol;
 
-pub fn placeholder() -> bool {
-    true
-}
+pub use forms::scan;

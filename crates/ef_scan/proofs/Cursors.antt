@@ -16,12 +16,12 @@ pub behind_one : (first second : Cursor) (c : ℕ) → first.rest.now ≡ encode
 behind_one first second c e w inside position lines columns =
     let less : length second.rest.now < length first.rest.now = past_char first.rest.now second.rest.now c e in
     record {
-        c = c;
-        chars_are = chars_past_char first.rest.now second.rest.now c inside.utf8 e;
-        white = w;
-        position = position;
-        in_text = record { utf8 = IsUtf8-past_char first.rest.now second.rest.now c inside.utf8 e; lines = omega arith; columns = omega arith };
-        less = less;
+      c = c;
+      chars_are = chars_past_char first.rest.now second.rest.now c inside.utf8 e;
+      white = w;
+      position = position;
+      in_text = record { utf8 = IsUtf8-past_char first.rest.now second.rest.now c inside.utf8 e; lines = omega arith; columns = omega arith };
+      less = less;
     }
 
 pub behind_none : (first : Cursor) → IsInText first → IsBehindGap first first
@@ -29,12 +29,12 @@ behind_none first inside = record { gap = []; is_gap = none; chars_are = refl; p
 
 pub behind_more : (first second third : Cursor) → IsBehindGap first second → IsBehindWhite second third → IsBehindGap first third
 behind_more first second third h k = record {
-    gap = h.gap ++ k.c ∷ [];
-    is_gap = gap_join h.gap (k.c ∷ []) h.is_gap (white k.c [] k.white none);
-    chars_are = h.chars_are ∙ ap (λ t. h.gap ++ t) k.chars_are ∙ sym (append_assoc h.gap (k.c ∷ []) (chars third.rest.now));
-    position = k.position ∙ ap (λ p. next_position p k.c) h.position ∙ sym (position_after-append (position_of first) h.gap (k.c ∷ []));
-    short = let a = h.short in let b = k.less in omega arith;
-    in_text = k.in_text;
+  gap = h.gap ++ k.c ∷ [];
+  is_gap = gap_join h.gap (k.c ∷ []) h.is_gap (white k.c [] k.white none);
+  chars_are = h.chars_are ∙ ap (λ t. h.gap ++ t) k.chars_are ∙ sym (append_assoc h.gap (k.c ∷ []) (chars third.rest.now));
+  position = k.position ∙ ap (λ p. next_position p k.c) h.position ∙ sym (position_after-append (position_of first) h.gap (k.c ∷ []));
+  short = let a = h.short in let b = k.less in omega arith;
+  in_text = k.in_text;
 }
 
 pub behind_width : (first second : Cursor) (width : ℕ) → IsInText first → width ≤ length first.rest.now → Each is_plain (take width first.rest.now)
@@ -44,8 +44,8 @@ behind_width first second width inside within plain rest line column =
     let left : length second.rest.now ≡ length first.rest.now - width = ap length rest ∙ length-drop width first.rest.now in
     let u : IsUtf8 (drop width first.rest.now) = utf8_behind (take width first.rest.now) (drop width first.rest.now) plain (subst IsUtf8 e inside.utf8) in
     record {
-        rest = rest;
-        line = line;
-        column = column;
-        in_text = record { utf8 = subst IsUtf8 (sym rest) u; lines = omega (arith, inside.lines); columns = omega (arith, inside.columns) };
+      rest = rest;
+      line = line;
+      column = column;
+      in_text = record { utf8 = subst IsUtf8 (sym rest) u; lines = omega (arith, inside.lines); columns = omega (arith, inside.columns) };
     }

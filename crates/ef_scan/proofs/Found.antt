@@ -55,14 +55,15 @@ behind_utf8 text n u h = utf8_behind (take n text) (drop n text) h (subst IsUtf8
 at_run : (text : List ℕ) (n : ℕ) (l : Lexeme) → IsUtf8 text → n ≤ length text → sort_of l ≢ 3 → Each is_plain (take n text)
     → ((c : ℕ) → goes_on (sort_of l) c ≡ true → c < 128) → Stops (goes_on (sort_of l)) (drop n text) → Spelled l (take n text) (chars (drop n text)) → IsAt text l n
 at_run text n l u within other plain small stops spelled = record {
-    within = within;
-    plain = plain;
-    spelled = spelled;
-    longest = go (take n text) spelled;
+  within = within;
+  plain = plain;
+  spelled = spelled;
+  longest = go (take n text) spelled;
 }
   where
     rest : List ℕ
     rest = chars (drop n text)
+
     go : (front : List ℕ) → Spelled l front (chars (drop n text)) → Longest Spelled front (chars (drop n text))
     go [] h = absurd (begins_as l [] (chars (drop n text)) h)
     go (c ∷ cs) h =
@@ -92,8 +93,8 @@ atom_at text name n u b run e never =
 pub atom_found : (text : List ℕ) (name : Bor (List ℕ)) (n : ℕ) → IsUtf8 text → Begins is_lower true text → IsRun is_name_part text n → name.now ≡ take n text → ((w : Word) → name.now ≢ word_text w)
     → n ≤ 255 → IsFound text (record { piece = piece.Atom name; width = n })
 atom_found text name n u b run e never short = record {
-    at = atom_at text name.now n u b run e never;
-    built = let l : length name.now ≡ n = ap length e ∙ length-take-le n text run.within in omega arith;
+  at = atom_at text name.now n u b run e never;
+  built = let l : length name.now ≡ n = ap length e ∙ length-take-le n text run.within in omega arith;
 }
 
 pub atom_long : (text name : List ℕ) (n : ℕ) → IsUtf8 text → Begins is_lower true text → IsRun is_name_part text n → name ≡ take n text → ((w : Word) → name ≢ word_text w)
@@ -103,9 +104,9 @@ atom_long text name n u b run e never long =
 
 pub word_found : (text : List ℕ) (n : ℕ) (w : Word) → IsUtf8 text → IsRun is_name_part text n → take n text ≡ word_text w → IsFound text (record { piece = piece.Word w; width = n })
 word_found text n w u run e = record {
-    at = at_run text n (x.word w) u run.within (λ z. absurd (omega (arith, z))) (each_weaker is_name_part is_plain (take n text) part_plain run.each)
-        (λ c h. plain_small c (part_plain c h)) run.stops e;
-    built = tt;
+  at = at_run text n (x.word w) u run.within (λ z. absurd (omega (arith, z))) (each_weaker is_name_part is_plain (take n text) part_plain run.each)
+      (λ c h. plain_small c (part_plain c h)) run.stops e;
+  built = tt;
 }
 
 -- ---- variables
@@ -134,8 +135,8 @@ integer_at text n u b run =
 pub integer_found : (text : List ℕ) (n v : ℕ) → IsUtf8 text → Begins is_digit true text → IsRun is_digit text n → IsValue (number_after 0 (take n text)) (Some v)
     → IsFound text (record { piece = piece.Int v; width = n })
 integer_found text n v u b run is = record {
-    at = subst (λ k. IsAt text (x.integer k) n) (sym is.0) (integer_at text n u b run);
-    built = subst (λ k. k < 2 ^ 127) (sym is.0) is.1;
+  at = subst (λ k. IsAt text (x.integer k) n) (sym is.0) (integer_at text n u b run);
+  built = subst (λ k. k < 2 ^ 127) (sym is.0) is.1;
 }
 
 pub integer_large : (text : List ℕ) (n : ℕ) → IsUtf8 text → Begins is_digit true text → IsRun is_digit text n → IsValue (number_after 0 (take n text)) None → IsNotBuilt (chars text)
@@ -166,6 +167,7 @@ symbol_longest text s width u h = longest_symbol s (chars (drop width text)) non
   where
     le : (m n : ℕ) → m ≤ n → nat_le m n ≡ true
     le m n k = grind (arith, nat_tests)
+
     none : (t : Sym) (after : List ℕ) → sym_text s ++ chars (drop width text) ≡ sym_text t ++ after → nat_le (length (sym_text t)) (length (sym_text s)) ≡ true
     none t after e =
         let whole : chars text ≡ sym_text t ++ after = chars_split text width u (symbol_plain text s width h) ∙ ap (λ r. r ++ chars (drop width text)) (symbol_front text s width h) ∙ e in
@@ -177,10 +179,10 @@ symbol_at : (text : List ℕ) (s : Sym) (width : ℕ) (l : Lexeme) → IsUtf8 te
 symbol_at text s width l u h spelled =
     let e : sym_text s ≡ take width text = sym (symbol_front text s width h) in
     record {
-        within = symbol_within text s width h;
-        plain = symbol_plain text s width h;
-        spelled = subst (λ t. Spelled l t (chars (drop width text))) e spelled;
-        longest = subst (λ t. Longest Spelled t (chars (drop width text))) e (symbol_longest text s width u h);
+      within = symbol_within text s width h;
+      plain = symbol_plain text s width h;
+      spelled = subst (λ t. Spelled l t (chars (drop width text))) e spelled;
+      longest = subst (λ t. Longest Spelled t (chars (drop width text))) e (symbol_longest text s width u h);
     }
 
 pub symbol_found : (text : List ℕ) (s : Sym) (width : ℕ) → IsUtf8 text → IsLongestSymbol text s width → (s ≡ symbols.Period → EndsForm (chars (drop width text)) → ⊥)
@@ -201,14 +203,19 @@ no_lexeme text u lower upper digit none l front rest e h longest built = of_sort
         at : (t : List ℕ) → Stops p (t ++ rest) → BeginsAs n t → ⊥
         at [] k m = m
         at (c ∷ t) k m = let yes : p c ≡ true = f c m.0 in cc
+
     sort_0 : (c : ℕ) → sort c ≡ 0 → is_lower c ≡ true
     sort_0 c k = grind (arith, nat_tests)
+
     sort_1 : (c : ℕ) → sort c ≡ 1 → is_upper c ≡ true
     sort_1 c k = grind (arith, nat_tests)
+
     sort_2 : (c : ℕ) → sort c ≡ 2 → is_digit c ≡ true
     sort_2 c k = grind (arith, nat_tests)
+
     fits : (s : Sym) → front ≡ sym_text s → ⊥
     fits s k = none s (bytes_plain text (sym_text s) rest u (e ∙ ap (λ t. t ++ rest) k) (symbol_facts s).plain)
+
     of_sort : (l : Lexeme) → Spelled l front rest → ⊥
     of_sort (x.atom cs) k = clash is_lower 0 sort_0 lower_small lower (begins_as (x.atom cs) front rest k)
     of_sort (x.word w) k = clash is_lower 0 sort_0 lower_small lower (begins_as (x.word w) front rest k)

@@ -38,22 +38,22 @@ gathers_none = record { forms = []; are = tt; whole = tt; unended = tt; is = ref
 
 pub gathers_more : (done : List ScannedForm) (open_form next ts : List Token) (t : Token) → Gathers done open_form ts → t.kind ≢ kind.Dot → next ≡ open_form ++ t ∷ [] → Gathers done next (ts ++ t ∷ [])
 gathers_more done open_form next ts t h n e = record {
-    forms = h.forms;
-    are = h.are;
-    whole = h.whole;
-    unended = subst IsOpen (sym e) (open_more open_form t h.unended n);
-    is = ap (λ o. joined h.forms ++ o) e ∙ sym (append_assoc (joined h.forms) open_form (t ∷ [])) ∙ ap (λ o. o ++ t ∷ []) h.is;
+  forms = h.forms;
+  are = h.are;
+  whole = h.whole;
+  unended = subst IsOpen (sym e) (open_more open_form t h.unended n);
+  is = ap (λ o. joined h.forms ++ o) e ∙ sym (append_assoc (joined h.forms) open_form (t ∷ [])) ∙ ap (λ o. o ++ t ∷ []) h.is;
 }
 
 pub gathers_form : (done next : List ScannedForm) (open_form left ts : List Token) (t : Token) (s : ScannedForm) → Gathers done open_form ts → t.kind ≡ kind.Dot
     → AreOf (s ∷ []) ((open_form ++ t ∷ []) ∷ []) → next ≡ done ++ s ∷ [] → left ≡ [] → Gathers next left (ts ++ t ∷ [])
 gathers_form done next open_form left ts t s h e are is none = record {
-    forms = h.forms ++ (open_form ++ t ∷ []) ∷ [];
-    are = subst (λ d. AreOf d (h.forms ++ (open_form ++ t ∷ []) ∷ [])) (sym is) (are_more done h.forms s (open_form ++ t ∷ []) h.are are);
-    whole = forms_more h.forms (open_form ++ t ∷ []) h.whole (form_ends open_form t h.unended e);
-    unended = subst IsOpen (sym none) tt;
-    is = ap (λ o. joined (h.forms ++ (open_form ++ t ∷ []) ∷ []) ++ o) none ∙ append-nil (joined (h.forms ++ (open_form ++ t ∷ []) ∷ []))
-        ∙ joined_more h.forms (open_form ++ t ∷ []) ∙ sym (append_assoc (joined h.forms) open_form (t ∷ [])) ∙ ap (λ o. o ++ t ∷ []) h.is;
+  forms = h.forms ++ (open_form ++ t ∷ []) ∷ [];
+  are = subst (λ d. AreOf d (h.forms ++ (open_form ++ t ∷ []) ∷ [])) (sym is) (are_more done h.forms s (open_form ++ t ∷ []) h.are are);
+  whole = forms_more h.forms (open_form ++ t ∷ []) h.whole (form_ends open_form t h.unended e);
+  unended = subst IsOpen (sym none) tt;
+  is = ap (λ o. joined (h.forms ++ (open_form ++ t ∷ []) ∷ []) ++ o) none ∙ append-nil (joined (h.forms ++ (open_form ++ t ∷ []) ∷ []))
+      ∙ joined_more h.forms (open_form ++ t ∷ []) ∙ sym (append_assoc (joined h.forms) open_form (t ∷ [])) ∙ ap (λ o. o ++ t ∷ []) h.is;
 }
 
 -- scanned forms of tokens are the answer

@@ -78,6 +78,7 @@ gap_behind (c ∷ a) b h k = gap_behind a b (tail c a h) (tail c (a ++ b) k)
     tail_of : (t : List ℕ) (c : ℕ) (cs : List ℕ) → Gap t → t ≡ c ∷ cs → Gap cs
     tail_of t c cs x.none e = cc
     tail_of t c cs (x.white d ds w h) e = let f : ds ≡ cs = cc e in subst Gap f h
+
     tail : (c : ℕ) (cs : List ℕ) → Gap (c ∷ cs) → Gap cs
     tail c cs h = tail_of (c ∷ cs) c cs h refl
 
@@ -90,13 +91,13 @@ gap_white c cs h = of (c ∷ cs) c cs h refl
 
 pub cut_facts : OneCut Lexeme Gap Spelled
 cut_facts = record {
-    begins_gap = is_white;
-    none = x.none;
-    join = gap_join;
-    behind = gap_behind;
-    gap = gap_white;
-    lexeme = λ l front rest h. not_white (sort_of l) front (begins_as l front rest h);
-    one = one_lexeme;
+  begins_gap = is_white;
+  none = x.none;
+  join = gap_join;
+  behind = gap_behind;
+  gap = gap_white;
+  lexeme = λ l front rest h. not_white (sort_of l) front (begins_as l front rest h);
+  one = one_lexeme;
 }
 
 -- ---- longest fronts
@@ -142,18 +143,23 @@ longest_symbol s rest f more after other e h =
     begins_on : (t : List ℕ) → BeginsAs 3 t → BeginsAs 3 (t ++ more)
     begins_on [] k = absurd k
     begins_on (c ∷ cs) k = k
+
     none : (m : List ℕ) → length (sym_text s ++ m) < length (sym_text s) + 1 → m ≡ []
     none [] k = refl
     none (c ∷ cs) k = absurd (omega (arith, length-append (sym_text s) (c ∷ cs)))
+
     one : (t : List ℕ) → BeginsAs 3 t → t ++ more ≡ 46 ∷ [] → more ≡ []
     one [] k z = absurd k
     one (c ∷ []) k z = cc z
     one (c ∷ d ∷ cs) k z = cc z
+
     assoc : (t a b : List ℕ) → (t ++ a) ++ b ≡ t ++ (a ++ b)
     assoc [] a b = refl
     assoc (c ∷ t) a b = ap (λ z. c ∷ z) (assoc t a b)
+
     le_lt : (m n : ℕ) → nat_le m n ≡ true → m < n + 1
     le_lt m n k = grind (arith, nat_tests)
+
     of_sort : (o : Lexeme) → 3 ≡ sort_of o → Spelled o (sym_text s ++ more) after → more ≡ []
     of_sort (x.symbol t) z k =
         let whole : sym_text s ++ rest ≡ sym_text t ++ after = ap (λ r. sym_text s ++ r) e ∙ sym (assoc (sym_text s) more after) ∙ ap (λ r. r ++ after) k.0 in

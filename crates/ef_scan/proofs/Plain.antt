@@ -39,9 +39,10 @@ chars_plain (c ∷ front) rest h u =
 
 -- plain characters at the front of the characters are bytes at the front of the bytes
 pub bytes_plain : (text front rest : List ℕ) → IsUtf8 text → chars text ≡ front ++ rest → Each is_plain front → (more : List ℕ) × (text ≡ front ++ more)
-bytes_plain text front rest u e h =
-    (encode_utf8_all rest,
-     sym (encodes-chars text u) ∙ ap encode_utf8_all e ∙ encodes-append front rest ∙ ap (λ t. t ++ encode_utf8_all rest) (encodes-IsAscii front (each_ascii front h)))
+bytes_plain text front rest u e h = (
+  encode_utf8_all rest,
+  sym (encodes-chars text u) ∙ ap encode_utf8_all e ∙ encodes-append front rest ∙ ap (λ t. t ++ encode_utf8_all rest) (encodes-IsAscii front (each_ascii front h)),
+)
 
 -- a text may be cut behind a plain front
 pub boundary : (text : List ℕ) (n : ℕ) → IsUtf8 text → n ≤ length text → Each is_plain (take n text) → IsCharBoundary text n
@@ -64,14 +65,17 @@ stops_chars p text u small s = go text (chars text) (encodes-chars text u) s
   where
     no : (b : Bool) → b ≡ true → b ≡ false → ⊥
     no b x y = cc
+
     first : (bytes cs : List ℕ) (c : ℕ) → bytes ≡ encode_utf8 c ++ cs → p c ≡ true → Stops p bytes → ⊥
     first bytes cs c e h t = at bytes (byte_from_char bytes cs c e (small c h)) (byte_some bytes cs c e (small c h)) t
       where
         byte_some : (bytes cs : List ℕ) (c : ℕ) → bytes ≡ encode_utf8 c ++ cs → c < 128 → bytes ≡ c ∷ cs
         byte_some bytes cs c e l = e ∙ ap (λ t. t ++ cs) (encode_ascii c l)
+
         at : (bytes : List ℕ) → get_or bytes 0 0 ≡ c → bytes ≡ c ∷ cs → Stops p bytes → ⊥
         at [] f g t = cc
         at (b ∷ bytes) f g t = let same : b ≡ c = cc in no (p c) h (subst (λ z. p z ≡ false) same t)
+
     go : (bytes cs : List ℕ) → encode_utf8_all cs ≡ bytes → Stops p bytes → Stops p cs
     go bytes [] e t = tt
     go bytes (c ∷ cs) e t =

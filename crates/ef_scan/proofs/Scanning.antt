@@ -36,18 +36,18 @@ use Rattle.ef_scan.proofs.Found.{chars_split}
 pub started : (before : Texts) (file : ℕ) (text : List ℕ) (first cursor : Cursor) (gathered : Gathered) → first.rest.now ≡ text → position_of first ≡ first_position
     → IsBehindGap first cursor → Stops is_white (chars cursor.rest.now) → Gathers gathered.done.items gathered.open_form.items [] → IsGathered before before file text cursor gathered
 started before file text first cursor gathered is at gap stops gathers = record {
-    lexemes = [];
-    tokens = [];
-    took =
-        let whole : chars text ≡ gap.gap ++ chars cursor.rest.now = ap chars (sym is) ∙ gap.chars_are in
-        let place : position_of cursor ≡ position_after first_position gap.gap = gap.position ∙ ap (λ p. position_after p gap.gap) at in
-        ([] ++ gap.gap, whole, gap.is_gap, place);
-    gathers = gathers;
-    are = λ all later. tt;
-    kept = extends_same before;
-    differ = λ d. d;
-    in_text = gap.in_text;
-    stops = stops;
+  lexemes = [];
+  tokens = [];
+  took =
+      let whole : chars text ≡ gap.gap ++ chars cursor.rest.now = ap chars (sym is) ∙ gap.chars_are in
+      let place : position_of cursor ≡ position_after first_position gap.gap = gap.position ∙ ap (λ p. position_after p gap.gap) at in
+      ([] ++ gap.gap, whole, gap.is_gap, place);
+  gathers = gathers;
+  are = λ all later. tt;
+  kept = extends_same before;
+  differ = λ d. d;
+  in_text = gap.in_text;
+  stops = stops;
 }
 
 -- ---- one more lexeme
@@ -72,28 +72,29 @@ pub more_gathered : (before now next : Texts) (file : ℕ) (text : List ℕ) (fi
     → ((ts : List Token) → Gathers old.done.items old.open_form.items ts → Gathers new.done.items new.open_form.items (ts ++ t ∷ []))
     → IsGathered before next file text third new
 more_gathered before now next file text first second third old new found t h is front gap stops kept differ place kind gathers = record {
-    lexemes = h.lexemes ++ l ∷ [];
-    tokens = h.tokens ++ t ∷ [];
-    took = took;
-    gathers = gathers h.tokens h.gathers;
-    are = λ all later. are_more all file h.lexemes h.tokens l t (h.are all (extends_later kept later)) place (kind all later);
-    kept = extends_later h.kept kept;
-    differ = λ d. differ (h.differ d);
-    in_text = gap.in_text;
-    stops = stops;
+  lexemes = h.lexemes ++ l ∷ [];
+  tokens = h.tokens ++ t ∷ [];
+  took = took;
+  gathers = gathers h.tokens h.gathers;
+  are = λ all later. are_more all file h.lexemes h.tokens l t (h.are all (extends_later kept later)) place (kind all later);
+  kept = extends_later h.kept kept;
+  differ = λ d. differ (h.differ d);
+  in_text = gap.in_text;
+  stops = stops;
 }
   where
     l : Placed Lexeme
     l = record { lexeme = lexeme_of found.piece; at = position_of first }
+
     took : Took Gap Spelled first_position (chars text) (h.lexemes ++ (record { lexeme = lexeme_of found.piece; at = position_of first }) ∷ []) (position_of third) (chars third.rest.now)
     took =
         let text_front = take found.width first.rest.now in
         let rest = chars (drop found.width first.rest.now) in
         let e : chars first.rest.now ≡ take found.width first.rest.now ++ chars (drop found.width first.rest.now) = chars_split first.rest.now found.width h.in_text.utf8 is.at.plain in
         let lexeme = took_lexeme cut_facts first_position (position_of first) (chars text) text_front rest (lexeme_of found.piece) h.lexemes
-            (subst (Took Gap Spelled first_position (chars text) h.lexemes (position_of first)) e h.took) is.at.spelled is.at.longest in
+        (subst (Took Gap Spelled first_position (chars text) h.lexemes (position_of first)) e h.took) is.at.spelled is.at.longest in
         let there : position_after (position_of first) (take found.width first.rest.now) ≡ position_of second =
-            behind_position first second found.width (take found.width first.rest.now) is.at.plain (length-take-le found.width first.rest.now is.at.within) front.line front.column in
+        behind_position first second found.width (take found.width first.rest.now) is.at.plain (length-take-le found.width first.rest.now is.at.within) front.line front.column in
         let left : chars (drop found.width first.rest.now) ≡ gap.gap ++ chars third.rest.now = ap chars (sym front.rest) ∙ gap.chars_are in
         let ls = h.lexemes ++ (record { lexeme = lexeme_of found.piece; at = position_of first }) ∷ [] in
         let at_second = subst (λ p. Took Gap Spelled first_position (chars text) ls p rest) there lexeme in
@@ -159,6 +160,7 @@ foreign_here before now file text cursor gathered h some none all forms s =
   where
     rest : List ℕ
     rest = chars cursor.rest.now
+
     go : (more : List (Placed Lexeme)) → s.lexemes ≡ h.lexemes ++ more → Cuts Gap Spelled (position_of cursor) (chars cursor.rest.now) more → ⊥
     go [] e c = no_last_gap (chars cursor.rest.now) h.stops (λ z. let n : length cursor.rest.now ≡ 0 = no_chars cursor.rest.now h.in_text.utf8 z in absurd (omega arith)) c
     go (m ∷ more) e c =
@@ -248,26 +250,28 @@ foreign_end before now file text cursor gathered h end opened all forms s =
     let same : s.lexemes ≡ h.lexemes = on.1 ∙ ap (λ m. h.lexemes ++ m) none ∙ append-nil h.lexemes in
     let theirs : AreTokens all file h.lexemes (joined forms) = subst (λ ls. AreTokens all file ls (joined forms)) same s.tokens in
     let ours : AreTokens now file h.lexemes (joined h.gathers.forms ++ gathered.open_form.items) =
-        subst (AreTokens now file h.lexemes) (sym h.gathers.is) (h.are now (extends_same now)) in
+    subst (AreTokens now file h.lexemes) (sym h.gathers.is) (h.are now (extends_same now)) in
     let last = last_lexeme now file h.lexemes (joined h.gathers.forms ++ gathered.open_form.items) ours
-        (last_behind (joined h.gathers.forms) gathered.open_form.items (open_last gathered.open_form.items h.gathers.unended opened)) in
+    (last_behind (joined h.gathers.forms) gathered.open_form.items (open_last gathered.open_form.items h.gathers.unended opened)) in
     forms_end forms s.ends (last_token all file h.lexemes (joined forms) theirs last)
 
 pub whole : (before now : Texts) (file : ℕ) (text : List ℕ) (cursor : Cursor) (gathered : Gathered) (scanned : List ScannedForm) → IsUtf8 text → IsGathered before now file text cursor gathered
     → length cursor.rest.now ≡ 0 → scanned ≡ gathered.done.items → gathered.open_form.items ≡ [] → (all : Texts) → Extends now all → IsWhole all file text scanned
-whole before now file text cursor gathered scanned u h end is none all later =
-    (h.gathers.forms, subst (λ d. AreOf d h.gathers.forms) (sym is) h.gathers.are,
-     record {
-         utf8 = u;
-         lexemes = h.lexemes;
-         cut =
-             subst (CutsInto first_position (chars text)) (append-nil h.lexemes)
-             (took_cut cut_facts first_position (position_of cursor) (chars text) (chars cursor.rest.now) h.lexemes [] h.took (inl (subst Gap (sym (empty_chars cursor.rest.now end)) x.none)));
-         tokens =
-             let e : h.tokens ≡ joined h.gathers.forms = sym h.gathers.is ∙ ap (λ o. joined h.gathers.forms ++ o) none ∙ append-nil (joined h.gathers.forms) in
-             subst (AreTokens all file h.lexemes) e (h.are all later);
-         ends = h.gathers.whole;
-     })
+whole before now file text cursor gathered scanned u h end is none all later = (
+  h.gathers.forms,
+  subst (λ d. AreOf d h.gathers.forms) (sym is) h.gathers.are,
+  record {
+    utf8 = u;
+    lexemes = h.lexemes;
+    cut =
+        subst (CutsInto first_position (chars text)) (append-nil h.lexemes)
+        (took_cut cut_facts first_position (position_of cursor) (chars text) (chars cursor.rest.now) h.lexemes [] h.took (inl (subst Gap (sym (empty_chars cursor.rest.now end)) x.none)));
+    tokens =
+        let e : h.tokens ≡ joined h.gathers.forms = sym h.gathers.is ∙ ap (λ o. joined h.gathers.forms ++ o) none ∙ append-nil (joined h.gathers.forms) in
+        subst (AreTokens all file h.lexemes) e (h.are all later);
+    ends = h.gathers.whole;
+  },
+)
 
 -- ---- the answer
 

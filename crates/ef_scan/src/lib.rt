@@ -9,7 +9,8 @@ mod kind;
 mod lexeme;
 mod part;
 mod piece;
-
 mod symbol;
+#[cfg(test)]
+mod tests;
 
 pub use forms::scan;

@@ -6,3 +6,6 @@ mod word;
 
 pub use token::{ScannedForm, Token, TokenKind};
 pub use word::{Sym, Word, word_of};
+
+#[cfg(test)]
+mod tests;

@@ -2,3 +2,4 @@ pub mod Sorted
 pub mod FaultLaws
 pub mod Tables
 pub mod Searches
+pub mod CutLaws

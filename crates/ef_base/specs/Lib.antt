@@ -4,3 +4,4 @@ pub mod Texts
 pub mod Laws
 pub mod Positions
 pub mod Cut
+pub mod Taken

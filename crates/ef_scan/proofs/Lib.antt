@@ -1,0 +1,10 @@
+pub mod Spellings
+pub mod Lexemes
+pub mod Plain
+pub mod Runs
+pub mod Cursors
+pub mod Found
+pub mod Symbols
+pub mod KindOf
+pub mod Gathering
+pub mod Scanning

@@ -51,3 +51,7 @@ AreOf _ _ = ⊥
 abbrev pub IsScanned : Texts → ℕ → List ℕ → List ScannedForm → Type 0
 IsScanned all file text (Faulty fault ∷ []) = (fault ≡ not_built file) × IsForeign file text
 IsScanned all file text scanned = (forms : List (List Token)) × AreOf scanned forms × ScansTo all file text forms
+
+-- the text is cut into lexemes in no second way
+abbrev pub HasOneCut : List ℕ → Type 0
+HasOneCut text = (ls ms : List (Placed Lexeme)) → CutsInto first_position (chars text) ls → CutsInto first_position (chars text) ms → ls ≡ ms

@@ -5,4 +5,7 @@ mod token;
 mod word;
 
 pub use token::{ScannedForm, Token, TokenKind};
-pub use word::{Sym, Word};
+pub use word::{Sym, Word, word_of};
+
+#[cfg(test)]
+mod tests;

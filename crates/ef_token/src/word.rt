@@ -1,4 +1,7 @@
 // Reserved words and symbols.
+ghost use Rattle.std.specs.Prelude.{◌≡◌, ◌≢◌, IfSome, IfNone};
+ghost use Rattle.ef_token.specs.Words.{word_text};
+ghost use Rattle.ef_token.specs.declared.word.Word.{Word};
 
 /// A reserved word.
 #[derive(Clone, Copy, Debug, PartialEq, Eq)]
@@ -81,4 +84,43 @@ pub enum Sym {
     DoublePeriod,
     Ellipsis,
     DoubleAnd,
+}
+
+/// The reserved word of this spelling. It takes no memory.
+pub fn word_of(text: &str) -> Option<Word>
+    ensures some { IfSome result (λ w. text.now ≡ word_text w) }
+    ensures none { IfNone result ((w : Word) → text.now ≢ word_text w) }
+{
+    match text {
+        "after" => Some(Word::After),
+        "and" => Some(Word::And),
+        "andalso" => Some(Word::AndAlso),
+        "band" => Some(Word::Band),
+        "begin" => Some(Word::Begin),
+        "bnot" => Some(Word::Bnot),
+        "bor" => Some(Word::Bor),
+        "bsl" => Some(Word::Bsl),
+        "bsr" => Some(Word::Bsr),
+        "bxor" => Some(Word::Bxor),
+        "case" => Some(Word::Case),
+        "catch" => Some(Word::Catch),
+        "cond" => Some(Word::Cond),
+        "div" => Some(Word::Div),
+        "else" => Some(Word::Else),
+        "end" => Some(Word::End),
+        "fun" => Some(Word::Fun),
+        "if" => Some(Word::If),
+        "let" => Some(Word::Let),
+        "maybe" => Some(Word::Maybe),
+        "not" => Some(Word::Not),
+        "of" => Some(Word::Of),
+        "or" => Some(Word::Or),
+        "orelse" => Some(Word::OrElse),
+        "receive" => Some(Word::Receive),
+        "rem" => Some(Word::Rem),
+        "try" => Some(Word::Try),
+        "when" => Some(Word::When),
+        "xor" => Some(Word::Xor),
+        _ => None,
+    }
 }

@@ -1,0 +1,11 @@
+use Rattle.std.proofs.Common.{ap, ◌∙◌, sym, refl, arith, rules, ◌+◌}
+use Rattle.ef_scan.proofs.Cursors.{behind_one}
+use Rattle.ef_scan.proofs.cursor.Cursor.behind_white.Goals as goal
+
+pub returns-then-first-eq10-clause-some : goal.returns-then-first-eq10-clause-some
+returns-then-first-eq10-clause-some c =
+    behind_one c.args.self.now (record { rest = c.as_str-rest.result; line = c.args.self.now.line + 1; column = 1 }) c.in_ok-first.first (search rules) (search rules) c.requires (search rules) (omega arith) (omega arith)
+
+pub returns-clause-some : goal.returns-clause-some
+returns-clause-some c =
+    behind_one c.args.self.now (record { rest = c.as_str-rest.result; line = c.args.self.now.line; column = c.args.self.now.column + 1 }) c.in_ok-first.first (search rules) (search rules) c.requires (search rules) (omega arith) (omega arith)

@@ -5,7 +5,8 @@ use Rattle.ef_base.specs.declared.fault.Place.{Place}
 use Rattle.ef_forms.specs.declared.expr.Expr.{Expr}
 use Rattle.ef_forms.specs.declared.expr.Node.TheOpen as layer
 use Rattle.ef_forms.specs.declared.expr.Node.TheOpen.{Node-F, Expr-F}
-use Rattle.ef_forms.specs.declared.expr.Node.TheFolds.{fold-Expr}
+use Rattle.ef_forms.specs.declared.expr.Node.TheFolds.{fold-Expr, fold-Node}
+use Rattle.ef_forms.specs.declared.expr.Node.{Node}
 use Rattle.ef_forms.specs.declared.expr.Clause.{Clause}
 use Rattle.ef_forms.specs.declared.form.Function.{Function}
 use Rattle.ef_forms.specs.declared.form.Form.{Form}
@@ -32,6 +33,9 @@ tree_layer e = t.tree e.place e.node
 
 abbrev pub plain : Expr → Tree
 plain = fold-Expr Shape Tree shape_layer tree_layer
+
+abbrev pub plain_node : Node → Shape
+plain_node = fold-Node Shape Tree shape_layer tree_layer
 
 abbrev pub plain_all : List Expr → Trees
 plain_all es = trees (map plain es)

@@ -1,0 +1,5 @@
+pub mod Plain
+pub mod Stack
+pub mod Parts
+pub mod Complete
+pub mod Sound

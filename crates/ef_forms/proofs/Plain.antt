@@ -1,0 +1,33 @@
+-- The equations of `plain`, one for each variant.
+use Rattle.std.proofs.Common.{◌≡◌, ℤ, List, [], ◌∷◌, ◌++◌, refl, sym, ap, ◌∙◌, map, Vec, Box}
+use Rattle.std.specs.declared.alloc.Global.{Global}
+use Rattle.ef_base.specs.declared.name.Name.{Name}
+use Rattle.ef_base.specs.declared.fault.Place.{Place}
+use Rattle.ef_forms.specs.declared.expr.Expr.{Expr}
+use Rattle.ef_forms.specs.declared.expr.Node.{Node}
+use Rattle.ef_forms.specs.declared.expr.Node.TheVariants as node
+use Rattle.ef_forms.specs.declared.expr.Node.TheOpen as layer
+use Rattle.ef_forms.specs.declared.expr.Node.TheFolds.{fold-roll-Node, fold_out-Expr}
+use Rattle.ef_forms.specs.declared.expr.Clause.{Clause}
+use Rattle.ef_forms.specs.Tree.{Tree, Shape, Trees, tree, int, atom, var, call, remote, end, more}
+use Rattle.ef_forms.specs.Plain.{plain, plain_node, plain_all, shape_layer, tree_layer}
+
+pub plain_expr : (e : Expr) → plain e ≡ tree e.place (plain_node e.node)
+plain_expr e = fold_out-Expr Shape Tree shape_layer tree_layer e
+
+pub plain_int : (i : ℤ) → plain_node (node.Int i) ≡ int i
+plain_int i = ap plain_node (sym (node.rolls-Int i)) ∙ fold-roll-Node Shape Tree shape_layer tree_layer (layer.Int i)
+
+pub plain_atom : (n : Name) → plain_node (node.Atom n) ≡ atom n
+plain_atom n = ap plain_node (sym (node.rolls-Atom n)) ∙ fold-roll-Node Shape Tree shape_layer tree_layer (layer.Atom n)
+
+pub plain_var : (n : Name) → plain_node (node.Var n) ≡ var n
+plain_var n = ap plain_node (sym (node.rolls-Var n)) ∙ fold-roll-Node Shape Tree shape_layer tree_layer (layer.Var n)
+
+pub plain_call : (f : Box Expr Global) (es : Vec Expr Global) → plain_node (node.Call f es) ≡ call (plain f.value) (plain_all es.items)
+plain_call f es = ap plain_node (sym (node.rolls-Call f es)) ∙ fold-roll-Node Shape Tree shape_layer tree_layer (layer.Call f es)
+
+pub plain_remote : (m f : Box Expr Global) (es : Vec Expr Global) → plain_node (node.Remote m f es) ≡ remote (plain m.value) (plain f.value) (plain_all es.items)
+plain_remote m f es = ap plain_node (sym (node.rolls-Remote m f es)) ∙ fold-roll-Node Shape Tree shape_layer tree_layer (layer.Remote m f es)
+
+pub ruleset laws = (plain_expr, plain_int, plain_atom, plain_var, plain_call, plain_remote)

@@ -3,3 +3,7 @@ pub mod Stack
 pub mod Parts
 pub mod Complete
 pub mod Sound
+pub mod One
+pub mod OfTable
+pub mod Runs
+pub mod Answered

@@ -187,3 +187,207 @@ module _ (limit : ℕ) where
           ≡ token (kind.Atom n) p ∷ symbol sy.LeftParen q ∷ (xs ++ symbol sy.RightParen r ∷ symbol sy.Arrow s ∷ us)
       regroup = simp append_assoc refl
 
+  -- ---- at the token that is seen
+
+  at_kind : (t : Token) (k : TokenKind) (read rest : List Token) (v : Move) → t.kind ≡ k → Grows read (token k t.place ∷ rest) v → Grows read (t ∷ rest) v
+  at_kind t k read rest v e g = subst (λ z. Grows read (token z t.place ∷ rest) v) (sym e) g
+
+  lists : (o : Opener) (K : List Frame) (ts us : List Token) (es : Trees) (d : ℕ) (read rest : List Token) (a : Ahead) → Begins rest a
+      → read ≡ ts ++ us → Opened o K ts → SpellsSome es d us → Grows read rest (listed limit o (items_of limit es d) K a)
+  lists o K ts us es d read [] ahead.Comma b w h s = absurd (cc)
+  lists o K ts us es d read (t ∷ rest) ahead.Comma b w h s =
+      at_kind t _ read rest (Take Need (InList o (items_of limit es d) ∷ K)) b
+      (subst (Open (InList o (items_of limit es d) ∷ K)) (sym (ap (λ z. z ++ symbol sy.Comma t.place ∷ []) w ∙ append_assoc ts us (symbol sy.Comma t.place ∷ [])))
+      (in_list o K ts (us ++ symbol sy.Comma t.place ∷ []) es d h (comma_after es d us t.place s)))
+  lists o K ts us es d read [] ahead.RightParen b w h s = absurd (cc)
+  lists o K ts us es d read (t ∷ rest) ahead.RightParen b w h s =
+      at_kind t _ read rest (ended limit o (items_of limit es d) K) b (ends o K ts us es d t.place rest read w h (some es d us s))
+  lists o K ts us es d read [] ahead.End b w h s = finishes o K ts us es d read w h s
+  lists o K ts us es d read (t ∷ rest) ahead.End b w h s = absurd b
+  lists o K ts us es d read rest _ b w h s = refused read rest
+
+  unwraps : (p : Place) (K : List Frame) (ts back : List Token) (e : Tree) (k d : ℕ) (read rest : List Token) (a : Ahead) → Begins rest a
+      → read ≡ (ts ++ symbol sy.LeftParen p ∷ []) ++ back → Open K ts → Spells e k d back → Grows read rest (unwrapped limit p (part_of limit (start_of back) e d) K a)
+  unwraps p K ts back e k d read [] ahead.RightParen b w h s = absurd (cc)
+  unwraps p K ts back e k d read (t ∷ rest) ahead.RightParen b w h s =
+      at_kind t _ read rest (Take (Have (Rattle.ef_parse.specs.Machine.parenthesised limit p (part_of limit (start_of back) e d)) max_level) K) b
+      (have _ ts (symbol sy.LeftParen p ∷ (back ++ symbol sy.RightParen t.place ∷ [])) K e max_level (suc d) _
+        (ap (λ z. z ++ symbol sy.RightParen t.place ∷ []) w ∙ regroup t.place)
+        (parens_is limit p (start_of back) e d) h (parentheses e k d p t.place back s))
+    where
+      regroup : (q : Place) → ((ts ++ symbol sy.LeftParen p ∷ []) ++ back) ++ symbol sy.RightParen q ∷ [] ≡ ts ++ symbol sy.LeftParen p ∷ (back ++ symbol sy.RightParen q ∷ [])
+      regroup q = simp append_assoc refl
+  unwraps p K ts back e k d read rest _ b w h s = refused read rest
+
+  wholes : (back : List Token) (e : Tree) (k d : ℕ) (read rest : List Token) (a : Ahead) → Begins rest a
+      → read ≡ back → Spells e k d back → Grows read rest (whole limit (part_of limit (start_of back) e d) a)
+  wholes back e k d read [] ahead.End b w s = (e, k, d, ap (λ z. part_of limit (start_of z) e d) (sym w), subst (Spells e k d) (sym w) s)
+  wholes back e k d read (t ∷ rest) ahead.End b w s = absurd b
+  wholes back e k d read rest _ b w s = refused read rest
+
+  closes : (K : List Frame) (front back : List Token) (e : Tree) (k d : ℕ) (read rest : List Token) (a : Ahead) → Begins rest a
+      → read ≡ front ++ back → Open K front → Spells e k d back → Grows read rest (close limit (part_of limit (start_of back) e d) K a)
+  closes K front back e k d read rest a b w bottom s = wholes back e k d read rest a b w s
+  closes K front back e k d read rest a b w (in_parens K' ts p h) s = unwraps p K' ts back e k d read rest a b w h s
+  closes K front back e k d read rest a b w (after_colon K' ts ms m c p h g) s = refused read rest
+  closes K front back e k d read rest a b w (in_list o K' ts us es c h f) s =
+      subst (λ z. Grows read rest (listed limit o z K' a)) (sym (put_in_is limit (start_of back) es e c d))
+      (lists o K' ts (us ++ back) (add es e) (max c d) read rest a b (w ∙ append_assoc ts us back) h (finish es c us f e k d back s))
+
+  -- a list is begun
+  begun_list : (o : Opener) (K : List Frame) (ts read : List Token) → read ≡ ts → Opened o K ts → Open (InList o (none limit) ∷ K) read
+  begun_list o K ts read w h = subst (Open (InList o (none limit) ∷ K)) (append-nil ts ∙ sym w) (in_list o K ts [] end 0 h no_front)
+
+  opens : (K : List Frame) (front back : List Token) (e : Tree) (d : ℕ) (p : Place) (read rest : List Token)
+      → read ≡ front ++ back → Open K front → Spells e max_level d back → Grows read (symbol sy.LeftParen p ∷ rest) (opened limit (part_of limit (start_of back) e d) K)
+  opens K front back e d p read rest w bottom s =
+      begun_list _ _ (back ++ symbol sy.LeftParen p ∷ []) _ (ap (λ z. z ++ symbol sy.LeftParen p ∷ []) w) (for_call _ [] back e d p bottom s)
+  opens K front back e d p read rest w (in_parens K' ts q h) s =
+      begun_list _ _ (front ++ (back ++ symbol sy.LeftParen p ∷ [])) _ (ap (λ z. z ++ symbol sy.LeftParen p ∷ []) w ∙ append_assoc front back _) (for_call _ front back e d p (in_parens K' ts q h) s)
+  opens K front back e d p read rest w (after_colon K' ts ms m c q h g) s =
+      begun_list _ _ (ts ++ (ms ++ symbol sy.Colon q ∷ (back ++ symbol sy.LeftParen p ∷ []))) _ (ap (λ z. z ++ symbol sy.LeftParen p ∷ []) w ∙ regroup) (for_remote K' ts ms back m e c d q p h g s)
+    where
+      regroup : ((ts ++ (ms ++ symbol sy.Colon q ∷ [])) ++ back) ++ symbol sy.LeftParen p ∷ [] ≡ ts ++ (ms ++ symbol sy.Colon q ∷ (back ++ symbol sy.LeftParen p ∷ []))
+      regroup = simp append_assoc refl
+  opens K front back e d p read rest w (in_list o K' ts us es c h f) s =
+      begun_list _ _ (front ++ (back ++ symbol sy.LeftParen p ∷ [])) _ (ap (λ z. z ++ symbol sy.LeftParen p ∷ []) w ∙ append_assoc front back _) (for_call _ front back e d p (in_list o K' ts us es c h f) s)
+
+  qualifies : (K : List Frame) (front back : List Token) (e : Tree) (d : ℕ) (p : Place) (read rest : List Token)
+      → read ≡ front ++ back → Open K front → Spells e max_level d back → Grows read (symbol sy.Colon p ∷ rest) (qualified limit (part_of limit (start_of back) e d) K)
+  qualifies K front back e d p read rest w bottom s =
+      subst (Open _) (sym (ap (λ z. z ++ symbol sy.Colon p ∷ []) w)) (after_colon [] [] back e d p bottom s)
+  qualifies K front back e d p read rest w (in_parens K' ts q h) s =
+      subst (Open _) (sym (ap (λ z. z ++ symbol sy.Colon p ∷ []) w ∙ append_assoc front back _)) (after_colon _ front back e d p (in_parens K' ts q h) s)
+  qualifies K front back e d p read rest w (after_colon K' ts ms m c q h g) s = tt
+  qualifies K front back e d p read rest w (in_list o K' ts us es c h f) s =
+      subst (Open _) (sym (ap (λ z. z ++ symbol sy.Colon p ∷ []) w ∙ append_assoc front back _)) (after_colon _ front back e d p (in_list o K' ts us es c h f) s)
+
+  level_max : (e : Tree) (k d : ℕ) (ts : List Token) → Spells e k d ts → k ≤ max_level
+  level_max e k d ts (a_variable n p) = omega arith
+  level_max e k d ts (an_atom n p) = omega arith
+  level_max e k d ts (an_integer i p) = omega arith
+  level_max e k d ts (parentheses e' k' d' p q es h) = omega arith
+  level_max e k d ts (a_call f args d' g p q fs xs h hs) = omega arith
+  level_max e k d ts (a_remote m f args c d' g p q r ms fs xs h h' hs) = omega arith
+
+  full : (e : Tree) (k d : ℕ) (ts : List Token) → Spells e k d ts → nat_le max_level k ≡ true → Spells e max_level d ts
+  full e k d ts s q =
+      let high : max_level ≤ k = grind (arith, nat_tests) in
+      let is : k ≡ max_level = omega (arith, level_max e k d ts s) in
+      subst (λ z. Spells e z d ts) is s
+
+  goes : (K : List Frame) (front back : List Token) (e : Tree) (k d : ℕ) (read rest : List Token) (a : Ahead) → Begins rest a
+      → read ≡ front ++ back → Open K front → Spells e k d back → Grows read rest (go_on limit (part_of limit (start_of back) e d) k K a)
+  goes K front back e k d read [] ahead.LeftParen b w h s = absurd (cc)
+  goes K front back e k d read (t ∷ rest) ahead.LeftParen b w h s = go (nat_le max_level k) refl
+    where
+      go : (c : Bool) → nat_le max_level k ≡ c → Grows read (t ∷ rest) (cond c (opened limit (part_of limit (start_of back) e d) K) (Over Refused))
+      go true q = at_kind t _ read rest (opened limit (part_of limit (start_of back) e d) K) b (opens K front back e d t.place read rest w h (full e k d back s q))
+      go false q = tt
+  goes K front back e k d read [] ahead.Colon b w h s = absurd (cc)
+  goes K front back e k d read (t ∷ rest) ahead.Colon b w h s = go (nat_le max_level k) refl
+    where
+      go : (c : Bool) → nat_le max_level k ≡ c → Grows read (t ∷ rest) (cond c (qualified limit (part_of limit (start_of back) e d) K) (Over Refused))
+      go true q = at_kind t _ read rest (qualified limit (part_of limit (start_of back) e d) K) b (qualifies K front back e d t.place read rest w h (full e k d back s q))
+      go false q = tt
+  goes K front back e k d read rest a b w h s = closes K front back e k d read rest a b w h s
+
+  empties : (K : List Frame) (read rest : List Token) (p : Place) → Open K read → Grows read (symbol sy.RightParen p ∷ rest) (ended_empty limit K)
+  empties K read rest p bottom = tt
+  empties K read rest p (in_parens K' ts q h) = tt
+  empties K read rest p (after_colon K' ts ms m c q h g) = tt
+  empties K read rest p (in_list o K' ts us es d h f) = go (is_none (items_of limit es d)) refl
+    where
+      go : (c : Bool) → is_none (items_of limit es d) ≡ c → Grows read (symbol sy.RightParen p ∷ rest) (cond c (ended limit o (items_of limit es d) K') (Over Refused))
+      go true q = ends o K' ts us es d p rest read refl h (empty_front es d us f q)
+      go false q = tt
+
+  single : (K : List Frame) (read rest : List Token) (k : TokenKind) (p : Place) (e : Tree) → Open K read → Spells e max_level 1 (token k p ∷ [])
+      → Grows read (token k p ∷ rest) (Take (Have (part_of limit p e 1) max_level) K)
+  single K read rest k p e h s = (read, token k p ∷ [], e, 1, refl, refl, h, s)
+
+  starts : (K : List Frame) (read rest : List Token) (a : Ahead) → Begins rest a → Open K read → Grows read rest (begin limit K a (start_of rest))
+  starts K read [] (ahead.Var n) b h = absurd (cc)
+  starts K read (t ∷ rest) (ahead.Var n) b h = at_kind t _ read rest (Take (Have (part_of limit t.place (tree t.place (var n)) 1) max_level) K) b (single K read rest _ t.place _ h (a_variable n t.place))
+  starts K read [] (ahead.Atom n) b h = absurd (cc)
+  starts K read (t ∷ rest) (ahead.Atom n) b h = at_kind t _ read rest (Take (Have (part_of limit t.place (tree t.place (atom n)) 1) max_level) K) b (single K read rest _ t.place _ h (an_atom n t.place))
+  starts K read [] (ahead.Int i) b h = absurd (cc)
+  starts K read (t ∷ rest) (ahead.Int i) b h = at_kind t _ read rest (Take (Have (part_of limit t.place (tree t.place (int i)) 1) max_level) K) b (single K read rest _ t.place _ h (an_integer i t.place))
+  starts K read [] ahead.LeftParen b h = absurd (cc)
+  starts K read (t ∷ rest) ahead.LeftParen b h = at_kind t _ read rest (Take Need (InParens t.place ∷ K)) b (in_parens K read t.place h)
+  starts K read [] ahead.RightParen b h = absurd (cc)
+  starts K read (t ∷ rest) ahead.RightParen b h = at_kind t _ read rest (ended_empty limit K) b (empties K read rest t.place h)
+  starts K read rest _ b h = refused read rest
+
+  names : (K : List Frame) (read rest : List Token) (a : Ahead) → Begins rest a → Held NeedName K read → Grows read rest (named limit K a (start_of rest))
+  names K read [] (ahead.Atom n) b h = absurd (cc)
+  names K read (t ∷ rest) (ahead.Atom n) b h =
+      at_kind t _ read rest (Take NeedHead (InList (head_at t.place) (none limit) ∷ K)) b
+      (n, t.place, ap (λ z. InList (head_at t.place) (none limit) ∷ z) h.0, ap (λ z. z ++ token (kind.Atom n) t.place ∷ []) h.1)
+  names K read rest _ b h = refused read rest
+
+  heads : (K : List Frame) (read rest : List Token) (a : Ahead) → Begins rest a → Held NeedHead K read → Grows read rest (headed limit K a)
+  heads K read [] ahead.LeftParen b h = absurd (cc)
+  heads K read (t ∷ rest) ahead.LeftParen b h =
+      at_kind t _ read rest (Take Need K) b
+      (subst (λ z. Open z (read ++ symbol sy.LeftParen t.place ∷ [])) (sym h.2)
+      (begun_list (head_at h.1) [] (token (kind.Atom h.0) h.1 ∷ symbol sy.LeftParen t.place ∷ []) _ (ap (λ z. z ++ symbol sy.LeftParen t.place ∷ []) h.3) (for_head h.0 h.1 t.place)))
+  heads K read rest _ b h = refused read rest
+
+  points : (K : List Frame) (read rest : List Token) (a : Ahead) → Begins rest a → Held NeedArrow K read → Grows read rest (pointed limit K a)
+  points K read [] ahead.Arrow b h = absurd (cc)
+  points K read (t ∷ rest) ahead.Arrow b h =
+      at_kind t _ read rest (Take Need K) b
+      (subst (λ z. Open z (read ++ symbol sy.Arrow t.place ∷ [])) (sym h.7)
+      (begun_list (body_of h.1 (items_of limit h.5 h.6)) [] (token (kind.Atom h.0) h.1 ∷ symbol sy.LeftParen h.2 ∷ (h.4 ++ symbol sy.RightParen h.3 ∷ symbol sy.Arrow t.place ∷ [])) _
+        (ap (λ z. z ++ symbol sy.Arrow t.place ∷ []) h.8 ∙ ap (λ z. token (kind.Atom h.0) h.1 ∷ symbol sy.LeftParen h.2 ∷ z) (append_assoc h.4 (symbol sy.RightParen h.3 ∷ []) (symbol sy.Arrow t.place ∷ [])))
+        (for_body h.0 h.1 h.2 h.3 t.place h.4 h.5 h.6 h.9)))
+  points K read rest _ b h = refused read rest
+
+  moves : (m : Mode) (K : List Frame) (read rest : List Token) (a : Ahead) → Begins rest a → Held m K read → Grows read rest (move limit m K a (start_of rest))
+  moves Need K read rest a b h = starts K read rest a b h
+  moves (Have p k) K read rest a b h =
+      subst (λ z. Grows read rest (go_on limit z k K a)) (sym h.5) (goes K h.0 h.1 h.2 k h.3 read rest a b h.4 h.6 h.7)
+  moves NeedName K read rest a b h = names K read rest a b h
+  moves NeedHead K read rest a b h = heads K read rest a b h
+  moves NeedArrow K read rest a b h = points K read rest a b h
+
+  -- ---- whole runs
+
+  taken : (all read rest : List Token) (v : Move) (t : State) → all ≡ read ++ rest → Grows read rest v → apply v rest ≡ Go t → Keeps all t
+  taken all read [] (Take m K) t w g e = absurd g
+  taken all read (x ∷ rest) (Take m K) t w g e = subst (Keeps all) (go_is e) (read ++ x ∷ [], w ∙ sym (append_assoc read (x ∷ []) rest), g)
+    where
+      go_is : Go (st m K rest) ≡ Go t → st m K rest ≡ t
+      go_is e = cc
+  taken all read rest (Over o) t w g e = cc
+
+  over : (all read rest : List Token) (v : Move) (o : Outcome) → all ≡ read ++ rest → Grows read rest v → apply v rest ≡ Done o → Says all o
+  over all read rest (Take m K) o w g e = cc
+  over all read [] (Over o') o w g e = subst (Says all) (done_is e) (subst (λ z. Says z o') (sym (w ∙ append-nil read)) g)
+    where
+      done_is : Done o' ≡ Done o → o' ≡ o
+      done_is e = cc
+  over all read (x ∷ rest) (Over (Expression p)) o w g e = absurd g
+  over all read (x ∷ rest) (Over (Clause p ps es)) o w g e = absurd g
+  over all read (x ∷ rest) (Over Refused) o w g e = subst (Says all) (done_is e) tt
+    where
+      done_is : Done Refused ≡ Done o → Refused ≡ o
+      done_is e = cc
+
+  keeps : (all : List Token) (s t : State) → Steps limit s t → Keeps all s → Keeps all t
+  keeps all s t (here s') h = h
+  keeps all s t (then_on s' u t' e p) h =
+      keeps all u t p (taken all h.0 s.rest (move limit s.mode s.stack (look s.rest) (start_of s.rest)) u h.1 (moves s.mode s.stack h.0 s.rest (look s.rest) (begins s.rest) h.2) e)
+
+  ended_says : (all : List Token) (m : Mode) (o : Outcome) → Held m [] [] → Ends limit m all o → Says all o
+  ended_says all m o h r =
+      let k : Keeps all r.0 = keeps all (st m [] all) r.0 r.1 ([], refl, h) in
+      over all k.0 r.0.rest (move limit r.0.mode r.0.stack (look r.0.rest) (start_of r.0.rest)) o k.1 (moves r.0.mode r.0.stack k.0 r.0.rest (look r.0.rest) (begins r.0.rest) k.2) r.2
+
+  -- what is read is spelled
+  pub expression_spelled : (ts : List Token) (o : Outcome) → Ends limit Need ts o → Says ts o
+  expression_spelled ts o r = ended_says ts Need o bottom r
+
+  pub clause_spelled : (ts : List Token) (o : Outcome) → Ends limit NeedName ts o → Says ts o
+  clause_spelled ts o r = ended_says ts NeedName o (refl, refl) r

@@ -1,6 +1,10 @@
 -- What the parser's values stand for in the machine.
-use Rattle.std.specs.Prelude.{◌≡◌, ℕ, List, [], ◌∷◌, map, reverse}
-use Rattle.ef_forms.specs.Plain.{plain, plain_all}
+use Rattle.std.specs.Prelude.{◌≡◌, ◌⊎◌, ℕ, List, [], ◌∷◌, map, reverse, Option, Some, None, Vec}
+use Rattle.std.specs.declared.alloc.Global.{Global}
+use Rattle.ef_base.specs.declared.fault.Place.{Place}
+use Rattle.ef_forms.specs.declared.expr.Clause.{Clause}
+use Rattle.ef_forms.specs.Tree.{Trees, clause, no_guard, no_clauses}
+use Rattle.ef_forms.specs.Plain.{plain, plain_all, plain_clauses}
 use Rattle.ef_parse.specs.declared.part.Part as rp
 use Rattle.ef_parse.specs.declared.part.Part.TheVariants as part_is
 use Rattle.ef_parse.specs.declared.part.Parts as rps
@@ -56,3 +60,9 @@ outcome outcome_is.Refused = m.Refused
 abbrev pub done : ra.Advance → List rf.Frame → m.Move
 done (advance_is.Take n) K = m.Take (mode n) (frames K)
 done (advance_is.Done o) K = m.Over (outcome o)
+
+-- the one clause of patterns and a body that are built, or none where one of them is nested too deep
+abbrev pub MakesClause : Option (Vec Clause Global) → Place → m.Parts → m.Parts → Type 0
+MakesClause (Some cs) p ps es =
+    (xs ys : Trees) × (d g : ℕ) × (ps ≡ m.built_all xs d) × (es ≡ m.built_all ys g) × (plain_clauses cs.items ≡ clause p xs no_guard ys no_clauses)
+MakesClause None p ps es = (ps ≡ m.deep_all) ⊎ (es ≡ m.deep_all)

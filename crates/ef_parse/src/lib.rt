@@ -3,5 +3,8 @@
 
 mod ahead;
 mod frame;
+mod parse;
 mod part;
 mod step;
+
+pub use parse::{clauses, expression};

@@ -85,11 +85,14 @@ clauses_built ts p ps es d g r =
 
 pub clauses_deep : (ts : List Token) (p : Place) (ps es : Parts) → Ends 128 NeedName ts (Clause p ps es) → (ps ≡ deep_all) ⊎ (es ≡ deep_all) → AreDeepClauses ts
 clauses_deep ts p ps es r h =
-    let s = clause_spelled 128 ts _ r in
-    (s.0, clause p s.1 no_guard s.2 no_clauses, max s.3 s.4,
-     ⊎_elim (λ e. omega (arith, large_all (nat_le s.3 128) s.1 s.3 refl (sym e ∙ s.5)))
-       (λ e. omega (arith, large_all (nat_le s.4 128) s.2 s.4 refl (sym e ∙ s.6))) h,
-     s.7)
+    let s = clause_spelled 128 ts _ r in (
+      s.0,
+      clause p s.1 no_guard s.2 no_clauses,
+      max s.3 s.4,
+      ⊎_elim (λ e. omega (arith, large_all (nat_le s.3 128) s.1 s.3 refl (sym e ∙ s.5)))
+          (λ e. omega (arith, large_all (nat_le s.4 128) s.2 s.4 refl (sym e ∙ s.6))) h,
+      s.7,
+    )
 
 abbrev pub IsOtherThanClause : Outcome → Type 0
 IsOtherThanClause (Clause p ps es) = ⊥

@@ -124,17 +124,17 @@ module _ (limit : ℕ) where
         (takes _ _ _ K _ _ _ (unwraps p (start_of es) e' d' K) (here _))))
     reads e k d ts (a_call f args d' g p q fs xs h hs) K rest m =
         subst (λ z. Steps limit (st Need K z) (st (Have (part_of limit (start_of (fs ++ symbol sy.LeftParen p ∷ (xs ++ symbol sy.RightParen q ∷ []))) (tree (start_of fs) (call f args)) (suc (max d' g))) call_level) K rest))
-          (sym (append_assoc fs (symbol sy.LeftParen p ∷ (xs ++ symbol sy.RightParen q ∷ [])) rest ∙ ap (λ z. fs ++ symbol sy.LeftParen p ∷ z) (append_assoc xs (symbol sy.RightParen q ∷ []) rest)))
+        (sym (append_assoc fs (symbol sy.LeftParen p ∷ (xs ++ symbol sy.RightParen q ∷ [])) rest ∙ ap (λ z. fs ++ symbol sy.LeftParen p ∷ z) (append_assoc xs (symbol sy.RightParen q ∷ []) rest)))
         (subst (λ z. Steps limit (st Need K (fs ++ symbol sy.LeftParen p ∷ (xs ++ symbol sy.RightParen q ∷ rest))) (st (Have (part_of limit z (tree (start_of fs) (call f args)) (suc (max d' g))) call_level) K rest))
-          (sym (start_is fs _ (begun f max_level d' fs h)))
+        (sym (start_is fs _ (begun f max_level d' fs h)))
         (after _ _ _ (reads f max_level d' fs h K (symbol sy.LeftParen p ∷ (xs ++ symbol sy.RightParen q ∷ rest)) (omega arith))
         (takes _ _ _ _ _ _ _ (opens _ K m)
         (reads_all args g xs hs (call_of (part_of limit (start_of fs) f d')) K q rest _ _ (ends_call (start_of fs) f args d' g K)))))
     reads e k d ts (a_remote n f args c d' g p q r ms fs xs h h' hs) K rest m =
         subst (λ z. Steps limit (st Need K z) (st (Have (part_of limit (start_of (ms ++ symbol sy.Colon p ∷ (fs ++ symbol sy.LeftParen q ∷ (xs ++ symbol sy.RightParen r ∷ [])))) (tree (start_of ms) (remote n f args)) (suc (max c (max d' g)))) call_level) K rest))
-          (sym (regroup ms fs xs p q r rest))
+        (sym (regroup ms fs xs p q r rest))
         (subst (λ z. Steps limit (st Need K (ms ++ symbol sy.Colon p ∷ (fs ++ symbol sy.LeftParen q ∷ (xs ++ symbol sy.RightParen r ∷ rest)))) (st (Have (part_of limit z (tree (start_of ms) (remote n f args)) (suc (max c (max d' g)))) call_level) K rest))
-          (sym (start_is ms _ (begun n max_level c ms h)))
+        (sym (start_is ms _ (begun n max_level c ms h)))
         (after _ _ _ (reads n max_level c ms h K (symbol sy.Colon p ∷ (fs ++ symbol sy.LeftParen q ∷ (xs ++ symbol sy.RightParen r ∷ rest))) (omega arith))
         (takes _ _ _ _ _ _ _ (qualifies _ K m)
         (after _ _ _ (reads f max_level d' fs h' (AfterColon (part_of limit (start_of ms) n c) ∷ K) (symbol sy.LeftParen q ∷ (xs ++ symbol sy.RightParen r ∷ rest)) (omega arith))
@@ -170,31 +170,33 @@ module _ (limit : ℕ) where
           last = l.last;
           level = l.level;
           steps =
-            subst (λ z. Steps limit (st Need (InList o (items_of limit done f) ∷ K) z) (st (Have l.last l.level) (InList o l.front ∷ K) rest)) (sym (append_assoc ts' (symbol sy.Comma p ∷ us) rest))
-            (after _ _ _ (reads e k d' ts' h (InList o (items_of limit done f) ∷ K) (symbol sy.Comma p ∷ (us ++ rest)) (omega arith))
-            (takes _ _ _ _ _ _ _ (ap (λ z. Take Need (InList o z ∷ K)) (put_in_is limit (start_of ts') done e f d')) l.steps));
+              subst (λ z. Steps limit (st Need (InList o (items_of limit done f) ∷ K) z) (st (Have l.last l.level) (InList o l.front ∷ K) rest)) (sym (append_assoc ts' (symbol sy.Comma p ∷ us) rest))
+              (after _ _ _ (reads e k d' ts' h (InList o (items_of limit done f) ∷ K) (symbol sy.Comma p ∷ (us ++ rest)) (omega arith))
+              (takes _ _ _ _ _ _ _ (ap (λ z. Take Need (InList o z ∷ K)) (put_in_is limit (start_of ts') done e f d')) l.steps));
           whole = l.whole ∙ ap (λ z. items_of limit z (max (max f d') g)) (joined done es' e) ∙ ap (items_of limit (join done (more e es'))) (max_regroup f d' g);
         }
 
   -- ---- whole runs
 
   pub expression_read : (e : Tree) (k d : ℕ) (ts : List Token) → Spells e k d ts → Ends limit Need ts (Expression (part_of limit (start_of ts) e d))
-  expression_read e k d ts h =
-      (st (Have (part_of limit (start_of ts) e d) k) [] [],
-       subst (λ z. Steps limit (st Need [] z) (st (Have (part_of limit (start_of ts) e d) k) [] [])) (append-nil ts) (reads e k d ts h [] [] (omega arith)),
-       refl)
+  expression_read e k d ts h = (
+    st (Have (part_of limit (start_of ts) e d) k) [] [],
+    subst (λ z. Steps limit (st Need [] z) (st (Have (part_of limit (start_of ts) e d) k) [] [])) (append-nil ts) (reads e k d ts h [] [] (omega arith)),
+    refl,
+  )
 
   pub clause_read : (n : Name) (p : Place) (ps es : Trees) (d g : ℕ) (q r s : Place) (xs ys : List Token) → SpellsAll ps d xs → SpellsSome es g ys
       → Ends limit NeedName (token (kind.Atom n) p ∷ symbol sy.LeftParen q ∷ (xs ++ symbol sy.RightParen r ∷ symbol sy.Arrow s ∷ ys)) (Clause p (items_of limit ps d) (items_of limit es g))
   clause_read n p ps es d g q r s xs ys hs hs' =
       let l : Listed (body_of p (items_of limit ps d)) (items_of limit end 0) [] (ys ++ []) [] es (max 0 g) = reads_some es g ys hs' end 0 (body_of p (items_of limit ps d)) [] [] in
       let steps : Steps limit (st Need (InList (body_of p (items_of limit ps d)) (none limit) ∷ []) ys) (st (Have l.last l.level) (InList (body_of p (items_of limit ps d)) l.front ∷ []) []) =
-        subst (λ z. Steps limit (st Need (InList (body_of p (items_of limit ps d)) (none limit) ∷ []) z) (st (Have l.last l.level) (InList (body_of p (items_of limit ps d)) l.front ∷ []) [])) (append-nil ys) l.steps in
-      (st (Have l.last l.level) (InList (body_of p (items_of limit ps d)) l.front ∷ []) [],
-       takes _ _ _ _ _ _ _ refl (takes _ _ _ _ _ _ _ refl
-         (after _ _ _ (reads_all ps d xs hs (head_at p) [] r (symbol sy.Arrow s ∷ ys) NeedArrow (InList (body_of p (items_of limit ps d)) (none limit) ∷ []) refl)
-         (takes _ _ _ _ _ _ _ refl steps))),
-       ap (λ z. Done (Clause p (items_of limit ps d) z)) (l.whole ∙ ap (items_of limit es) (zero_max g)))
+      subst (λ z. Steps limit (st Need (InList (body_of p (items_of limit ps d)) (none limit) ∷ []) z) (st (Have l.last l.level) (InList (body_of p (items_of limit ps d)) l.front ∷ []) [])) (append-nil ys) l.steps in (
+        st (Have l.last l.level) (InList (body_of p (items_of limit ps d)) l.front ∷ []) [],
+        takes _ _ _ _ _ _ _ refl (takes _ _ _ _ _ _ _ refl
+            (after _ _ _ (reads_all ps d xs hs (head_at p) [] r (symbol sy.Arrow s ∷ ys) NeedArrow (InList (body_of p (items_of limit ps d)) (none limit) ∷ []) refl)
+            (takes _ _ _ _ _ _ _ refl steps))),
+        ap (λ z. Done (Clause p (items_of limit ps d) z)) (l.whole ∙ ap (items_of limit es) (zero_max g)),
+      )
 
   -- ---- a run has one end
 

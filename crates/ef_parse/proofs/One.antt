@@ -18,9 +18,9 @@ pub one_expression : (x y : Tree) (j k d f : ℕ) (ts : List Token) → Spells x
 one_expression x y j k d f ts g h =
     let limit : ℕ = max d f in
     same_tree (start_of ts) x y d f
-      (ap Expression (sym (part_small limit (start_of ts) x d (omega arith)))
-      ∙ alike limit Need ts _ _ (expression_read limit x j d ts g) (expression_read limit y k f ts h)
-      ∙ ap Expression (part_small limit (start_of ts) y f (omega arith)))
+    (ap Expression (sym (part_small limit (start_of ts) x d (omega arith)))
+    ∙ alike limit Need ts _ _ (expression_read limit x j d ts g) (expression_read limit y k f ts h)
+    ∙ ap Expression (part_small limit (start_of ts) y f (omega arith)))
 
 -- what the rule of a clause takes
 pub record OneClause (cs : Clauses) (d : ℕ) (ts : List Token) : Type 0 where
@@ -47,9 +47,9 @@ one_clauses m n cs bs d f ts g h =
     let y : OneClause bs f ts = clause_of n bs f ts h in
     let limit : ℕ = max (max x.deep_patterns x.deep_body) (max y.deep_patterns y.deep_body) in
     let both = same_clause x.place y.place x.patterns y.patterns x.body y.body x.deep_patterns x.deep_body y.deep_patterns y.deep_body
-      (ap (λ z. Clause x.place z (built_all x.body x.deep_body)) (sym (items_small limit x.patterns x.deep_patterns (omega arith)))
-      ∙ ap (Clause x.place (items_of limit x.patterns x.deep_patterns)) (sym (items_small limit x.body x.deep_body (omega arith)))
-      ∙ alike limit NeedName ts _ _ (x.read limit) (y.read limit)
-      ∙ ap (Clause y.place (items_of limit y.patterns y.deep_patterns)) (items_small limit y.body y.deep_body (omega arith))
-      ∙ ap (λ z. Clause y.place z (built_all y.body y.deep_body)) (items_small limit y.patterns y.deep_patterns (omega arith))) in
+    (ap (λ z. Clause x.place z (built_all x.body x.deep_body)) (sym (items_small limit x.patterns x.deep_patterns (omega arith)))
+    ∙ ap (Clause x.place (items_of limit x.patterns x.deep_patterns)) (sym (items_small limit x.body x.deep_body (omega arith)))
+    ∙ alike limit NeedName ts _ _ (x.read limit) (y.read limit)
+    ∙ ap (Clause y.place (items_of limit y.patterns y.deep_patterns)) (items_small limit y.body y.deep_body (omega arith))
+    ∙ ap (λ z. Clause y.place z (built_all y.body y.deep_body)) (items_small limit y.patterns y.deep_patterns (omega arith))) in
     (x.is ∙ both.0 ∙ sym y.is, x.nesting ∙ both.1 ∙ sym y.nesting)

@@ -38,8 +38,8 @@ module _ (limit : ℕ) where
   pub parens_is : (q p : Place) (e : Tree) (d : ℕ) → parenthesised limit q (part_of limit p e d) ≡ part_of limit q e (suc d)
   parens_is q p e d =
       ⊎_elim (λ h. ap (parenthesised limit q) (part_small p e d h))
-        (λ h. ap (parenthesised limit q) (part_deep p e d h) ∙ sym (part_deep q e (suc d) (omega arith)))
-        (split d limit)
+      (λ h. ap (parenthesised limit q) (part_deep p e d h) ∙ sym (part_deep q e (suc d) (omega arith)))
+      (split d limit)
 
   deep_args : (p : Part) → called limit p deep_all ≡ deep
   deep_args (built p e d) = refl
@@ -48,11 +48,11 @@ module _ (limit : ℕ) where
   pub called_is : (p : Place) (f : Tree) (es : Trees) (d g : ℕ) → called limit (part_of limit p f d) (items_of limit es g) ≡ part_of limit p (tree p (call f es)) (suc (max d g))
   called_is p f es d g =
       ⊎_elim (λ h. ⊎_elim
-          (λ h'. ap (λ z. called limit z (items_of limit es g)) (part_small p f d h) ∙ ap (called limit (built p f d)) (items_small es g h'))
-          (λ h'. ap (called limit (part_of limit p f d)) (items_deep es g h') ∙ deep_args (part_of limit p f d) ∙ sym (part_deep p (tree p (call f es)) (suc (max d g)) (omega arith)))
-          (split g limit))
-        (λ h. ap (λ z. called limit z (items_of limit es g)) (part_deep p f d h) ∙ sym (part_deep p (tree p (call f es)) (suc (max d g)) (omega arith)))
-        (split d limit)
+      (λ h'. ap (λ z. called limit z (items_of limit es g)) (part_small p f d h) ∙ ap (called limit (built p f d)) (items_small es g h'))
+      (λ h'. ap (called limit (part_of limit p f d)) (items_deep es g h') ∙ deep_args (part_of limit p f d) ∙ sym (part_deep p (tree p (call f es)) (suc (max d g)) (omega arith)))
+      (split g limit))
+      (λ h. ap (λ z. called limit z (items_of limit es g)) (part_deep p f d h) ∙ sym (part_deep p (tree p (call f es)) (suc (max d g)) (omega arith)))
+      (split d limit)
 
   deep_function : (m : Part) (es : Parts) → called_in limit m deep es ≡ deep
   deep_function (built p e d) es = refl
@@ -67,11 +67,11 @@ module _ (limit : ℕ) where
       → called_in limit (part_of limit p m c) (part_of limit q f d) (items_of limit es g) ≡ part_of limit p (tree p (remote m f es)) (suc (max c (max d g)))
   called_in_is p q m f es c d g =
       ⊎_elim (λ h. ⊎_elim (λ h'. ⊎_elim (all_small h h') (λ h''. ap (called_in limit (part_of limit p m c) (part_of limit q f d)) (items_deep es g h'') ∙ deep_in (part_of limit p m c) (part_of limit q f d) ∙ sym (too_deep (omega arith)))
-          (split g limit))
-          (λ h'. ap (λ z. called_in limit (part_of limit p m c) z (items_of limit es g)) (part_deep q f d h') ∙ deep_function (part_of limit p m c) (items_of limit es g) ∙ sym (too_deep (omega arith)))
-          (split d limit))
-        (λ h. ap (λ z. called_in limit z (part_of limit q f d) (items_of limit es g)) (part_deep p m c h) ∙ sym (too_deep (omega arith)))
-        (split c limit)
+      (split g limit))
+      (λ h'. ap (λ z. called_in limit (part_of limit p m c) z (items_of limit es g)) (part_deep q f d h') ∙ deep_function (part_of limit p m c) (items_of limit es g) ∙ sym (too_deep (omega arith)))
+      (split d limit))
+      (λ h. ap (λ z. called_in limit z (part_of limit q f d) (items_of limit es g)) (part_deep p m c h) ∙ sym (too_deep (omega arith)))
+      (split c limit)
     where
       too_deep : limit < suc (max c (max d g)) → part_of limit p (tree p (remote m f es)) (suc (max c (max d g))) ≡ deep
       too_deep h = part_deep p (tree p (remote m f es)) (suc (max c (max d g))) h
@@ -86,8 +86,8 @@ module _ (limit : ℕ) where
   pub put_in_is : (p : Place) (es : Trees) (e : Tree) (d g : ℕ) → put_in (items_of limit es d) (part_of limit p e g) ≡ items_of limit (add es e) (max d g)
   put_in_is p es e d g =
       ⊎_elim (λ h. ⊎_elim
-          (λ h'. ap (λ z. put_in z (part_of limit p e g)) (items_small es d h) ∙ ap (put_in (built_all es d)) (part_small p e g h') ∙ sym (items_small (add es e) (max d g) (omega arith)))
-          (λ h'. ap (put_in (items_of limit es d)) (part_deep p e g h') ∙ no_put (items_of limit es d) ∙ sym (items_deep (add es e) (max d g) (omega arith)))
-          (split g limit))
-        (λ h. ap (λ z. put_in z (part_of limit p e g)) (items_deep es d h) ∙ sym (items_deep (add es e) (max d g) (omega arith)))
-        (split d limit)
+      (λ h'. ap (λ z. put_in z (part_of limit p e g)) (items_small es d h) ∙ ap (put_in (built_all es d)) (part_small p e g h') ∙ sym (items_small (add es e) (max d g) (omega arith)))
+      (λ h'. ap (put_in (items_of limit es d)) (part_deep p e g h') ∙ no_put (items_of limit es d) ∙ sym (items_deep (add es e) (max d g) (omega arith)))
+      (split g limit))
+      (λ h. ap (λ z. put_in z (part_of limit p e g)) (items_deep es d h) ∙ sym (items_deep (add es e) (max d g) (omega arith)))
+      (split d limit)

@@ -155,17 +155,17 @@ module _ (limit : ℕ) where
       → Grows read (symbol sy.RightParen q ∷ rest) (ended limit o (items_of limit es d) K)
   ends o K ts us es d q rest read w (for_call K' ts' fs f c p h s) hs =
       have _ ts' (fs ++ symbol sy.LeftParen p ∷ (us ++ symbol sy.RightParen q ∷ [])) K' (tree (start_of fs) (call f es)) call_level (suc (max c d)) _
-        (ap (λ z. z ++ symbol sy.RightParen q ∷ []) w ∙ regroup)
-        (called_is limit (start_of fs) f es c d ∙ ap (λ z. part_of limit z (tree (start_of fs) (call f es)) (suc (max c d))) (sym (start_is fs _ (begun f max_level c fs s))))
-        h (a_call f es c d p q fs us s hs)
+      (ap (λ z. z ++ symbol sy.RightParen q ∷ []) w ∙ regroup)
+      (called_is limit (start_of fs) f es c d ∙ ap (λ z. part_of limit z (tree (start_of fs) (call f es)) (suc (max c d))) (sym (start_is fs _ (begun f max_level c fs s))))
+      h (a_call f es c d p q fs us s hs)
     where
       regroup : ((ts' ++ (fs ++ symbol sy.LeftParen p ∷ [])) ++ us) ++ symbol sy.RightParen q ∷ [] ≡ ts' ++ (fs ++ symbol sy.LeftParen p ∷ (us ++ symbol sy.RightParen q ∷ []))
       regroup = simp append_assoc refl
   ends o K ts us es d q rest read w (for_remote K' ts' ms fs m f b c p r h s s') hs =
       have _ ts' (ms ++ symbol sy.Colon p ∷ (fs ++ symbol sy.LeftParen r ∷ (us ++ symbol sy.RightParen q ∷ []))) K' (tree (start_of ms) (remote m f es)) call_level (suc (max b (max c d))) _
-        (ap (λ z. z ++ symbol sy.RightParen q ∷ []) w ∙ regroup)
-        (called_in_is limit (start_of ms) (start_of fs) m f es b c d ∙ ap (λ z. part_of limit z (tree (start_of ms) (remote m f es)) (suc (max b (max c d)))) (sym (start_is ms _ (begun m max_level b ms s))))
-        h (a_remote m f es b c d p r q ms fs us s s' hs)
+      (ap (λ z. z ++ symbol sy.RightParen q ∷ []) w ∙ regroup)
+      (called_in_is limit (start_of ms) (start_of fs) m f es b c d ∙ ap (λ z. part_of limit z (tree (start_of ms) (remote m f es)) (suc (max b (max c d)))) (sym (start_is ms _ (begun m max_level b ms s))))
+      h (a_remote m f es b c d p r q ms fs us s s' hs)
     where
       regroup : ((ts' ++ (ms ++ symbol sy.Colon p ∷ (fs ++ symbol sy.LeftParen r ∷ []))) ++ us) ++ symbol sy.RightParen q ∷ []
           ≡ ts' ++ (ms ++ symbol sy.Colon p ∷ (fs ++ symbol sy.LeftParen r ∷ (us ++ symbol sy.RightParen q ∷ [])))
@@ -212,8 +212,8 @@ module _ (limit : ℕ) where
   unwraps p K ts back e k d read (t ∷ rest) ahead.RightParen b w h s =
       at_kind t _ read rest (Take (Have (Rattle.ef_parse.specs.Machine.parenthesised limit p (part_of limit (start_of back) e d)) max_level) K) b
       (have _ ts (symbol sy.LeftParen p ∷ (back ++ symbol sy.RightParen t.place ∷ [])) K e max_level (suc d) _
-        (ap (λ z. z ++ symbol sy.RightParen t.place ∷ []) w ∙ regroup t.place)
-        (parens_is limit p (start_of back) e d) h (parentheses e k d p t.place back s))
+      (ap (λ z. z ++ symbol sy.RightParen t.place ∷ []) w ∙ regroup t.place)
+      (parens_is limit p (start_of back) e d) h (parentheses e k d p t.place back s))
     where
       regroup : (q : Place) → ((ts ++ symbol sy.LeftParen p ∷ []) ++ back) ++ symbol sy.RightParen q ∷ [] ≡ ts ++ symbol sy.LeftParen p ∷ (back ++ symbol sy.RightParen q ∷ [])
       regroup q = simp append_assoc refl
@@ -340,8 +340,8 @@ module _ (limit : ℕ) where
       at_kind t _ read rest (Take Need K) b
       (subst (λ z. Open z (read ++ symbol sy.Arrow t.place ∷ [])) (sym h.7)
       (begun_list (body_of h.1 (items_of limit h.5 h.6)) [] (token (kind.Atom h.0) h.1 ∷ symbol sy.LeftParen h.2 ∷ (h.4 ++ symbol sy.RightParen h.3 ∷ symbol sy.Arrow t.place ∷ [])) _
-        (ap (λ z. z ++ symbol sy.Arrow t.place ∷ []) h.8 ∙ ap (λ z. token (kind.Atom h.0) h.1 ∷ symbol sy.LeftParen h.2 ∷ z) (append_assoc h.4 (symbol sy.RightParen h.3 ∷ []) (symbol sy.Arrow t.place ∷ [])))
-        (for_body h.0 h.1 h.2 h.3 t.place h.4 h.5 h.6 h.9)))
+      (ap (λ z. z ++ symbol sy.Arrow t.place ∷ []) h.8 ∙ ap (λ z. token (kind.Atom h.0) h.1 ∷ symbol sy.LeftParen h.2 ∷ z) (append_assoc h.4 (symbol sy.RightParen h.3 ∷ []) (symbol sy.Arrow t.place ∷ [])))
+      (for_body h.0 h.1 h.2 h.3 t.place h.4 h.5 h.6 h.9)))
   points K read rest _ b h = refused read rest
 
   moves : (m : Mode) (K : List Frame) (read rest : List Token) (a : Ahead) → Begins rest a → Held m K read → Grows read rest (move limit m K a (start_of rest))

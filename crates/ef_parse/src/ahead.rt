@@ -64,6 +64,10 @@ pub fn place_at(tokens: &[Token], at: usize) -> Place
 {
     match tokens.get(at) {
         Some(token) => token.place,
-        None => Place { file: 0, line: 1, column: 1 },
+        None => Place {
+            file: 0,
+            line: 1,
+            column: 1,
+        },
     }
 }

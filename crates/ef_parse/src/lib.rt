@@ -8,3 +8,6 @@ mod part;
 mod step;
 
 pub use parse::{clauses, expression};
+
+#[cfg(test)]
+mod tests;

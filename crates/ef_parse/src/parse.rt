@@ -22,6 +22,7 @@ use ef_token::Token;
 use std::alloc::Global;
 
 const SYNTAX_ERROR: u16 = 301;
+
 const TOO_DEEP: u16 = 608;
 
 /// The one expression that all the tokens spell, with nesting at most 128.
@@ -73,7 +74,8 @@ fn one_clause(
     ensures { IfOk result (λ made. MakesClause made place (parts patterns) (parts body)) }
 {
     let Parts::Built {
-        exprs: patterns, ..
+        exprs: patterns,
+        ..
     } = patterns
     else {
         return Ok(None);

@@ -79,7 +79,9 @@ pub fn put_in(items: Parts, item: Part) -> Result<Parts, NoMemory>
         (
             Parts::Built { mut exprs, nesting },
             Part::Built {
-                expr, nesting: own, ..
+                expr,
+                nesting: own,
+                ..
             },
         ) => {
             exprs.push(expr)?;
@@ -122,8 +124,8 @@ pub fn called(alloc: Global, target: Part, args: Parts) -> Result<Part, NoMemory
                 target: Box::new(alloc, expr)?,
                 args: exprs,
             };
-            let whole = Expr { place: start, node };
-            Ok(part_of(start, whole, nesting.max(most) + 1))
+            let call = Expr { place: start, node };
+            Ok(part_of(start, call, nesting.max(most) + 1))
         }
         _ => Ok(Part::Deep),
     }
@@ -131,12 +133,7 @@ pub fn called(alloc: Global, target: Part, args: Parts) -> Result<Part, NoMemory
 
 /// The remote call, at the module's first token.
 #[tactic(auto, using(crate::proofs::Plain::laws))]
-pub fn called_in(
-    alloc: Global,
-    home: Part,
-    function: Part,
-    args: Parts,
-) -> Result<Part, NoMemory>
+pub fn called_in(alloc: Global, home: Part, function: Part, args: Parts) -> Result<Part, NoMemory>
     ensures { IfOk result (λ q. part q ≡ m.called_in 128 (part home) (part function) (parts args)) }
 {
     match (home, function, args) {

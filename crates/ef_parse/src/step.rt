@@ -13,6 +13,7 @@ use ef_forms::Node;
 use std::alloc::Global;
 
 const CALL_LEVEL: u8 = 9;
+
 const MAX_LEVEL: u8 = 11;
 
 /// The parenthesis ends the list.

@@ -7,8 +7,8 @@ use Rattle.ef_parse.proofs.parse.clauses.Goals as goal
 pub returns-in-Ok-Some-clause-read : goal.returns-in-Ok-Some-clause-read
 returns-in-Ok-Some-clause-read c =
     clauses_made c.args.tokens.now c.in-Ok-Clause.place (parts c.in-Ok-Clause.patterns) (parts c.in-Ok-Clause.body) c.in-Ok-Some.clauses
-      (subst (Ends 128 NeedName c.args.tokens.now) (ap outcome c.in-Ok-Clause.field-0-is) c.in-Ok-Clause.ensures)
-      (subst (λ z. MakesClause z c.in-Ok-Clause.place (parts c.in-Ok-Clause.patterns) (parts c.in-Ok-Clause.body)) c.in-Ok-Some.field-0-is c.in-Ok-Some.ensures)
+    (subst (Ends 128 NeedName c.args.tokens.now) (ap outcome c.in-Ok-Clause.field-0-is) c.in-Ok-Clause.ensures)
+    (subst (λ z. MakesClause z c.in-Ok-Clause.place (parts c.in-Ok-Clause.patterns) (parts c.in-Ok-Clause.body)) c.in-Ok-Some.field-0-is c.in-Ok-Some.ensures)
 
 pub returns-in-Ok-Some-clause-alone : goal.returns-in-Ok-Some-clause-alone
 returns-in-Ok-Some-clause-alone c = clauses_alone c.args.tokens.now _ (returns-in-Ok-Some-clause-read c)
@@ -19,8 +19,8 @@ returns-in-Ok-Some-clause-of_table c = clauses_table c.args.tokens.now _ (return
 pub returns-in-Ok-None-clause-refused : goal.returns-in-Ok-None-clause-refused
 returns-in-Ok-None-clause-refused c =
     clauses_too_deep c.args.tokens.now _ c.in-Ok-Clause.place (parts c.in-Ok-Clause.patterns) (parts c.in-Ok-Clause.body) c.fault.ensures
-      (subst (Ends 128 NeedName c.args.tokens.now) (ap outcome c.in-Ok-Clause.field-0-is) c.in-Ok-Clause.ensures)
-      (subst (λ z. MakesClause z c.in-Ok-Clause.place (parts c.in-Ok-Clause.patterns) (parts c.in-Ok-Clause.body)) c.in-Ok-None.field-0-is c.in-Ok-None.ensures)
+    (subst (Ends 128 NeedName c.args.tokens.now) (ap outcome c.in-Ok-Clause.field-0-is) c.in-Ok-Clause.ensures)
+    (subst (λ z. MakesClause z c.in-Ok-Clause.place (parts c.in-Ok-Clause.patterns) (parts c.in-Ok-Clause.body)) c.in-Ok-None.field-0-is c.in-Ok-None.ensures)
 
 pub returns-in-Ok-Expression-clause-refused : goal.returns-in-Ok-Expression-clause-refused
 returns-in-Ok-Expression-clause-refused c =

@@ -21,15 +21,18 @@ moved_in-Take c =
     ∙ ap (λ z. done z c.step.new.stack.items) c.in-Take.is
 
 pub steps-preserved : goal.steps-preserved
-steps-preserved c =
-    (more_left 128 c.args.tokens.now c.steps.at _ _ _ _ _ (moved_in-Take c),
-     took 128 _ c.args.tokens.now c.steps.at _ _ _ _ c.steps.invariant.1 (moved_in-Take c))
+steps-preserved c = (
+  more_left 128 c.args.tokens.now c.steps.at _ _ _ _ _ (moved_in-Take c),
+  took 128 _ c.args.tokens.now c.steps.at _ _ _ _ c.steps.invariant.1 (moved_in-Take c),
+)
 
 pub returns-in-Done : goal.returns-in-Done
-returns-in-Done c =
-    (st (mode c.steps.mode) (frames c.steps.stack.items) (drop c.steps.at c.args.tokens.now), c.steps.invariant.1,
-     ap (λ z. apply z (drop c.steps.at c.args.tokens.now))
-       (ap (λ z. move 128 (mode c.steps.mode) (frames c.steps.stack.items) z (start_of (drop c.steps.at c.args.tokens.now))) (sym c.look-ahead.ensures)
-       ∙ ap (move 128 (mode c.steps.mode) (frames c.steps.stack.items) c.look-ahead.result) (sym c.place_at-place.ensures)
-       ∙ sym c.in_ok-next.ensures
-       ∙ ap (λ z. done z c.step.new.stack.items) c.in-Done.is))
+returns-in-Done c = (
+  st (mode c.steps.mode) (frames c.steps.stack.items) (drop c.steps.at c.args.tokens.now),
+  c.steps.invariant.1,
+  ap (λ z. apply z (drop c.steps.at c.args.tokens.now))
+      (ap (λ z. move 128 (mode c.steps.mode) (frames c.steps.stack.items) z (start_of (drop c.steps.at c.args.tokens.now))) (sym c.look-ahead.ensures)
+      ∙ ap (move 128 (mode c.steps.mode) (frames c.steps.stack.items) c.look-ahead.result) (sym c.place_at-place.ensures)
+      ∙ sym c.in_ok-next.ensures
+      ∙ ap (λ z. done z c.step.new.stack.items) c.in-Done.is),
+)

@@ -1,0 +1,9 @@
+pub mod Plain
+pub mod Stack
+pub mod Parts
+pub mod Complete
+pub mod Sound
+pub mod One
+pub mod OfTable
+pub mod Runs
+pub mod Answered

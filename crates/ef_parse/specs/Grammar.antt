@@ -39,11 +39,11 @@ mutual
     a_call : (f : Tree) (args : Trees) (d g : ℕ) (p q : Place) (fs xs : List Token)
         → Spells f max_level d fs → SpellsAll args g xs
         → Spells (tree (start_of fs) (call f args)) call_level (suc (max d g))
-            (fs ++ symbol sym.LeftParen p ∷ (xs ++ symbol sym.RightParen q ∷ []))
+        (fs ++ symbol sym.LeftParen p ∷ (xs ++ symbol sym.RightParen q ∷ []))
     a_remote : (m f : Tree) (args : Trees) (c d g : ℕ) (p q r : Place) (ms fs xs : List Token)
         → Spells m max_level c ms → Spells f max_level d fs → SpellsAll args g xs
         → Spells (tree (start_of ms) (remote m f args)) call_level (suc (max c (max d g)))
-            (ms ++ symbol sym.Colon p ∷ (fs ++ symbol sym.LeftParen q ∷ (xs ++ symbol sym.RightParen r ∷ [])))
+        (ms ++ symbol sym.Colon p ∷ (fs ++ symbol sym.LeftParen q ∷ (xs ++ symbol sym.RightParen r ∷ [])))
 
   -- none or more, with commas between
   pub data SpellsAll : Trees → ℕ → List Token → Type 0 where
@@ -61,4 +61,4 @@ pub data SpellsClauses : Name → Clauses → ℕ → List Token → Type 0 wher
   one_clause : (n : Name) (ps es : Trees) (d g : ℕ) (p q r s : Place) (xs ys : List Token)
       → SpellsAll ps d xs → SpellsSome es g ys
       → SpellsClauses n (clause p ps no_guard es no_clauses) (max d g)
-          (token (kind.Atom n) p ∷ symbol sym.LeftParen q ∷ (xs ++ symbol sym.RightParen r ∷ symbol sym.Arrow s ∷ ys))
+      (token (kind.Atom n) p ∷ symbol sym.LeftParen q ∷ (xs ++ symbol sym.RightParen r ∷ symbol sym.Arrow s ∷ ys))

@@ -1,6 +1,13 @@
-//! The parser of expressions and clauses.
+//! The parser of expressions and clauses: it gives the one tree that the tokens spell, or says that there is none.
 #![tactic(auto)]
 
-pub fn placeholder() -> bool {
-    true
-}
+mod ahead;
+mod frame;
+mod parse;
+mod part;
+mod step;
+
+pub use parse::{clauses, expression};
+
+#[cfg(test)]
+mod tests;

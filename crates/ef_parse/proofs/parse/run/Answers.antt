@@ -1,0 +1,38 @@
+use Rattle.std.proofs.Common.{◌≡◌, ◌≤◌, ◌+◌, length, sym, ap, ◌∙◌, subst, arith, drop}
+use Rattle.ef_base.specs.declared.fault.Place.{Place}
+use Rattle.ef_parse.specs.declared.ahead.Ahead.{Ahead}
+use Rattle.ef_parse.specs.declared.frame.Advance.{Advance}
+use Rattle.ef_parse.specs.declared.frame.Advance.TheVariants as advance
+use Rattle.ef_parse.specs.Grammar.{start_of}
+use Rattle.ef_parse.specs.Machine.{Move, Steps, here, st, Over, Take, Done, apply, look, move}
+use Rattle.ef_parse.specs.Shown.{frames, mode, outcome, done}
+use Rattle.ef_parse.proofs.Runs.{more_left, took}
+use Rattle.ef_parse.proofs.parse.run.Goals as goal
+
+pub steps-init : goal.steps-init
+steps-init c = (omega arith, subst (λ z. Steps 128 (st (mode c.args.start) _ c.args.tokens.now) (st (mode c.args.start) (frames z) c.args.tokens.now)) (sym c.new-stack.ensures.items) (here _))
+
+-- the move that the step made, at what is left
+moved_in-Take : (c : goal.In-Take) → move 128 (mode c.steps.mode) (frames c.steps.stack.items) (look (drop c.steps.at c.args.tokens.now)) (start_of (drop c.steps.at c.args.tokens.now)) ≡ Take (mode c.in-Take.next) (frames c.step.new.stack.items)
+moved_in-Take c =
+    ap (λ z. move 128 (mode c.steps.mode) (frames c.steps.stack.items) z (start_of (drop c.steps.at c.args.tokens.now))) (sym c.look-ahead.ensures)
+    ∙ ap (move 128 (mode c.steps.mode) (frames c.steps.stack.items) c.look-ahead.result) (sym c.place_at-place.ensures)
+    ∙ sym c.in_ok-next.ensures
+    ∙ ap (λ z. done z c.step.new.stack.items) c.in-Take.is
+
+pub steps-preserved : goal.steps-preserved
+steps-preserved c = (
+  more_left 128 c.args.tokens.now c.steps.at _ _ _ _ _ (moved_in-Take c),
+  took 128 _ c.args.tokens.now c.steps.at _ _ _ _ c.steps.invariant.1 (moved_in-Take c),
+)
+
+pub returns-in-Done : goal.returns-in-Done
+returns-in-Done c = (
+  st (mode c.steps.mode) (frames c.steps.stack.items) (drop c.steps.at c.args.tokens.now),
+  c.steps.invariant.1,
+  ap (λ z. apply z (drop c.steps.at c.args.tokens.now))
+      (ap (λ z. move 128 (mode c.steps.mode) (frames c.steps.stack.items) z (start_of (drop c.steps.at c.args.tokens.now))) (sym c.look-ahead.ensures)
+      ∙ ap (move 128 (mode c.steps.mode) (frames c.steps.stack.items) c.look-ahead.result) (sym c.place_at-place.ensures)
+      ∙ sym c.in_ok-next.ensures
+      ∙ ap (λ z. done z c.step.new.stack.items) c.in-Done.is),
+)

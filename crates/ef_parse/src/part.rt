@@ -1,0 +1,166 @@
+// Parts of what is read.
+ghost use Rattle.std.specs.Prelude.{◌≡◌, IfOk};
+ghost use Rattle.ef_forms.specs.Plain.{plain};
+ghost use Rattle.ef_forms.specs.Tree as t;
+ghost use Rattle.ef_parse.specs.Machine as m;
+ghost use Rattle.ef_parse.specs.Shown.{part, parts};
+
+use ef_base::{NoMemory, Place};
+use ef_forms::{Expr, Node};
+use std::alloc::Global;
+
+/// An expression with its nesting and the place of its first token, or one that is nested too deep to be built.
+#[derive(Drop)]
+pub enum Part {
+    Built {
+        start: Place,
+        expr: Expr,
+        nesting: u8,
+    },
+    Deep,
+}
+
+/// Expressions with the greatest of their nestings, or such of which one is nested too deep.
+#[derive(Drop)]
+pub enum Parts {
+    Built { exprs: Vec<Expr>, nesting: u8 },
+    Deep,
+}
+
+/// The greatest nesting of what is built.
+pub const LIMIT: u8 = 128;
+
+fn part_of(start: Place, expr: Expr, nesting: u8) -> Part
+    ensures { part result ≡ m.part_of 128 start (plain expr) nesting }
+{
+    if nesting <= LIMIT {
+        Part::Built {
+            start,
+            expr,
+            nesting,
+        }
+    } else {
+        Part::Deep
+    }
+}
+
+/// A part of one token.
+#[tactic(auto, using(crate::proofs::Plain::laws))]
+pub fn leaf(start: Place, node: Node) -> Part
+    ensures { part result ≡ m.part_of 128 start (plain (record { place = start; node = node })) 1 }
+{
+    part_of(start, Expr { place: start, node }, 1)
+}
+
+/// The part in parentheses, the first of which stands at `start`.
+pub fn parenthesised(start: Place, inner: Part) -> Part
+    ensures { part result ≡ m.parenthesised 128 start (part inner) }
+{
+    match inner {
+        Part::Built { expr, nesting, .. } if nesting < LIMIT => part_of(start, expr, nesting + 1),
+        _ => Part::Deep,
+    }
+}
+
+pub fn no_parts(alloc: Global) -> Parts
+    ensures { parts result ≡ m.none 128 }
+{
+    Parts::Built {
+        exprs: Vec::new(alloc),
+        nesting: 0,
+    }
+}
+
+#[tactic(auto, using(crate::proofs::Plain::laws))]
+pub fn put_in(items: Parts, item: Part) -> Result<Parts, NoMemory>
+    ensures { IfOk result (λ q. parts q ≡ m.put_in (parts items) (part item)) }
+{
+    match (items, item) {
+        (
+            Parts::Built { mut exprs, nesting },
+            Part::Built {
+                expr,
+                nesting: own,
+                ..
+            },
+        ) => {
+            exprs.push(expr)?;
+            Ok(Parts::Built {
+                exprs,
+                nesting: nesting.max(own),
+            })
+        }
+        _ => Ok(Parts::Deep),
+    }
+}
+
+pub fn is_none(items: &Parts) -> bool
+    ensures { result ≡ m.is_none (parts items.now) }
+{
+    match items {
+        Parts::Built { exprs, .. } => exprs.is_empty(),
+        Parts::Deep => false,
+    }
+}
+
+/// The call of the target, at the target's first token.
+#[tactic(auto, using(crate::proofs::Plain::laws))]
+pub fn called(alloc: Global, target: Part, args: Parts) -> Result<Part, NoMemory>
+    ensures { IfOk result (λ q. part q ≡ m.called 128 (part target) (parts args)) }
+{
+    match (target, args) {
+        (
+            Part::Built {
+                start,
+                expr,
+                nesting,
+            },
+            Parts::Built {
+                exprs,
+                nesting: most,
+            },
+        ) if nesting < LIMIT && most < LIMIT => {
+            let node = Node::Call {
+                target: Box::new(alloc, expr)?,
+                args: exprs,
+            };
+            let call = Expr { place: start, node };
+            Ok(part_of(start, call, nesting.max(most) + 1))
+        }
+        _ => Ok(Part::Deep),
+    }
+}
+
+/// The remote call, at the module's first token.
+#[tactic(auto, using(crate::proofs::Plain::laws))]
+pub fn called_in(alloc: Global, home: Part, function: Part, args: Parts) -> Result<Part, NoMemory>
+    ensures { IfOk result (λ q. part q ≡ m.called_in 128 (part home) (part function) (parts args)) }
+{
+    match (home, function, args) {
+        (
+            Part::Built {
+                start,
+                expr,
+                nesting,
+            },
+            Part::Built {
+                expr: name,
+                nesting: own,
+                ..
+            },
+            Parts::Built {
+                exprs,
+                nesting: most,
+            },
+        ) if nesting < LIMIT && own < LIMIT && most < LIMIT => {
+            let node = Node::Remote {
+                module: Box::new(alloc, expr)?,
+                function: Box::new(alloc, name)?,
+                args: exprs,
+            };
+            let whole = Expr { place: start, node };
+            Ok(part_of(start, whole, nesting.max(own.max(most)) + 1))
+        }
+        _ => Ok(Part::Deep),
+    }
+}

@@ -1,7 +1,9 @@
 -- Laws of Core trees, for the crates above.
-use Rattle.std.specs.Prelude.{◌≡◌, List, [], ◌∷◌, map, Vec, Box, refl}
-use Rattle.std.proofs.Common.{sym, ap, ◌∙◌}
+use Rattle.std.specs.Prelude.{◌≡◌, ℕ, ◌<◌, List, [], ◌∷◌, ◌++◌, map, flat_map, length, get_or, Vec, Box, refl}
+use Rattle.std.proofs.Common.{zero, suc, sym, ap, ◌∙◌, subst, arith}
 use Rattle.std.specs.declared.alloc.Global.{Global}
+use Rattle.ef_base.specs.Texts.{Texts}
+use Rattle.ef_core.specs.declared.lexeme.Symbol.TheVariants.{Comma}
 use Rattle.ef_core.specs.declared.tree.CoreVar.{CoreVar}
 use Rattle.ef_core.specs.declared.tree.CoreLit.{CoreLit}
 use Rattle.ef_core.specs.declared.tree.FName.{FName}
@@ -11,6 +13,8 @@ use Rattle.ef_core.specs.declared.tree.CoreExpr.TheFolds.{fold-LetStep, fold_out
 use Rattle.ef_core.specs.declared.tree.CoreExpr.TheVariants as e
 use Rattle.ef_core.specs.declared.tree.CoreExpr.TheOpen as layer
 use Rattle.ef_core.specs.Tree.{CoreTree, CoreTrees, CoreSteps, var, lit, fun_name, lets, apply, call}
+use Rattle.ef_core.specs.Layout.{separated, put_sym, pieces, all_pieces, more_pieces, steps_pieces, let_pieces}
+use Rattle.ef_core.specs.OfTable.{Each, VarOf, CoreOf, CoresOf, StepsOf}
 use Rattle.ef_core.specs.Plain.{plain, plain_all, plain_lit, plain_steps, plain_step, StepTree, tree_layer, step_layer, trees, steps}
 
 -- ---- the tree of each variant
@@ -43,3 +47,35 @@ pub plain_call : (m f : Box CoreExpr Global) (es : Vec CoreExpr Global) → plai
 plain_call m f es = ap plain (sym (e.rolls-Call m f es)) ∙ fold-roll-CoreExpr CoreTree StepTree tree_layer step_layer (layer.Call m f es)
 
 pub ruleset plain_laws = (plain_var, plain_literal, plain_fun_name, plain_lets, plain_apply, plain_call)
+
+-- ---- parts of lists
+
+pub each_at : {A : Type 0} (P : A → Type 0) (xs : List A) (i : ℕ) (x : A) → Each P xs → i < length xs → x ≡ get_or xs i x → P x
+each_at P [] i x all small read = absurd (omega arith)
+each_at P (y ∷ xs) zero x all small read = subst P (sym read) all.0
+each_at P (y ∷ xs) (suc i) x all small read = each_at P xs i x all.1 (omega arith) read
+
+pub cores_at : (texts : Texts) (es : List CoreExpr) (i : ℕ) (e : CoreExpr) → CoresOf texts (plain_all es) → i < length es → e ≡ get_or es i e → CoreOf texts (plain e)
+cores_at texts [] i e all small read = absurd (omega arith)
+cores_at texts (y ∷ es) zero e all small read = subst (λ z. CoreOf texts (plain z)) (sym read) all.0
+cores_at texts (y ∷ es) (suc i) e all small read = cores_at texts es i e all.1 (omega arith) read
+
+pub steps_at : (texts : Texts) (ss : List LetStep) (i : ℕ) (s : LetStep) → StepsOf texts (plain_steps ss) → i < length ss → s ≡ get_or ss i s → Each (VarOf texts) s.vars.items × CoreOf texts (plain s.value)
+steps_at texts [] i s all small read = absurd (omega arith)
+steps_at texts (y ∷ ss) zero s all small read =
+    subst (λ (z : LetStep). Each (VarOf texts) z.vars.items × CoreOf texts (plain z.value)) (sym read) (all.0, all.1)
+steps_at texts (y ∷ ss) (suc i) s all small read = steps_at texts ss i s all.2 (omega arith) read
+
+-- ---- the layout of lists
+
+pub all_separated : (texts : Texts) (es : List CoreExpr) → all_pieces texts (plain_all es) ≡ separated (λ e. pieces texts (plain e)) es
+all_separated texts [] = refl
+all_separated texts (e ∷ es) = ap (λ ps. pieces texts (plain e) ++ ps) (behind es)
+  where
+    behind : (es : List CoreExpr) → more_pieces texts (plain_all es) ≡ flat_map (λ e. put_sym Comma ++ pieces texts (plain e)) es
+    behind [] = refl
+    behind (e ∷ es) = ap (λ ps. put_sym Comma ++ (pieces texts (plain e) ++ ps)) (behind es)
+
+pub steps_one_by_one : (texts : Texts) (ss : List LetStep) → steps_pieces texts (plain_steps ss) ≡ flat_map (λ s. let_pieces texts s.vars.items (plain s.value)) ss
+steps_one_by_one texts [] = refl
+steps_one_by_one texts (s ∷ ss) = ap (λ ps. let_pieces texts s.vars.items (plain s.value) ++ ps) (steps_one_by_one texts ss)

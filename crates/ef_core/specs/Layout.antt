@@ -24,6 +24,11 @@ put_word w = Put (TheWord w) ∷ []
 abbrev pub put_sym : x.Symbol → List Piece
 put_sym s = Put (Sym s) ∷ []
 
+-- with commas between
+abbrev pub separated : {A : Type 0} → (A → List Piece) → List A → List Piece
+separated f [] = []
+separated f (a ∷ as') = f a ++ flat_map (λ b. put_sym x.Comma ++ f b) as'
+
 -- ---- the lexemes of trees, in order
 
 module _ (names : Texts) where
@@ -41,13 +46,8 @@ module _ (names : Texts) where
   lit_pieces (int n) = Put (x.Int n) ∷ []
   lit_pieces (atom n) = atom_pieces n
 
-  abbrev pub more_vars : List CoreVar → List Piece
-  more_vars [] = []
-  more_vars (v ∷ vs) = put_sym x.Comma ++ (var_pieces v ++ more_vars vs)
-
   abbrev pub var_list : List CoreVar → List Piece
-  var_list [] = []
-  var_list (v ∷ vs) = var_pieces v ++ more_vars vs
+  var_list = separated var_pieces
 
   -- one variable stands alone, any other number between `<` and `>`
   abbrev pub vars_pieces : List CoreVar → List Piece
@@ -76,37 +76,38 @@ module _ (names : Texts) where
     pub steps_pieces : CoreSteps → List Piece
     steps_pieces done = []
     steps_pieces (step vs e ss) =
-        put_word x.Let ++ (vars_pieces vs ++ (put_sym x.Equals ++ (pieces e ++ (put_word x.In ++ (Break ∷ [] ++ steps_pieces ss)))))
+        (put_word x.Let ++ (vars_pieces vs ++ (put_sym x.Equals ++ (pieces e ++ (put_word x.In ++ Break ∷ []))))) ++ steps_pieces ss
 
-  abbrev pub more_fnames : List FName → List Piece
-  more_fnames [] = []
-  more_fnames (f ∷ fs) = put_sym x.Comma ++ (fname_pieces f ++ more_fnames fs)
+  abbrev pub args_pieces : CoreTrees → List Piece
+  args_pieces es = put_sym x.LeftParen ++ (all_pieces es ++ put_sym x.RightParen)
+
+  abbrev pub let_pieces : List CoreVar → CoreTree → List Piece
+  let_pieces vs e = put_word x.Let ++ (vars_pieces vs ++ (put_sym x.Equals ++ (pieces e ++ (put_word x.In ++ Break ∷ []))))
 
   abbrev pub fname_list : List FName → List Piece
-  fname_list [] = []
-  fname_list (f ∷ fs) = fname_pieces f ++ more_fnames fs
+  fname_list = separated fname_pieces
 
   abbrev pub attribute_pieces : AttributeTree → List Piece
   attribute_pieces a = atom_pieces a.name ++ (put_sym x.Equals ++ lit_pieces a.term)
 
-  abbrev pub more_attributes : List AttributeTree → List Piece
-  more_attributes [] = []
-  more_attributes (a ∷ as') = put_sym x.Comma ++ (attribute_pieces a ++ more_attributes as')
-
   abbrev pub attribute_list : List AttributeTree → List Piece
-  attribute_list [] = []
-  attribute_list (a ∷ as') = attribute_pieces a ++ more_attributes as'
+  attribute_list = separated attribute_pieces
 
   abbrev pub def_pieces : DefTree → List Piece
   def_pieces d =
       Break ∷ [] ++ (fname_pieces d.name ++ (put_sym x.Equals ++ (put_word x.Fun
       ++ (put_sym x.LeftParen ++ (var_list d.params ++ (put_sym x.RightParen ++ (put_sym x.Arrow ++ pieces d.body)))))))
 
+  -- the name and the exports
+  abbrev pub header_pieces : CoreModuleTree → List Piece
+  header_pieces m = put_word x.Module ++ (atom_pieces m.name ++ (put_sym x.LeftBracket ++ (fname_list m.exports ++ put_sym x.RightBracket)))
+
+  abbrev pub attributes_pieces : CoreModuleTree → List Piece
+  attributes_pieces m =
+      Break ∷ [] ++ (put_word x.Attributes ++ (put_sym x.LeftBracket ++ (attribute_list m.attributes ++ put_sym x.RightBracket)))
+
   abbrev pub module_pieces : CoreModuleTree → List Piece
-  module_pieces m =
-      put_word x.Module ++ (atom_pieces m.name ++ (put_sym x.LeftBracket ++ (fname_list m.exports ++ (put_sym x.RightBracket
-      ++ (Break ∷ [] ++ (put_word x.Attributes ++ (put_sym x.LeftBracket ++ (attribute_list m.attributes ++ (put_sym x.RightBracket
-      ++ (flat_map def_pieces m.defs ++ (Break ∷ [] ++ put_word x.End)))))))))))
+  module_pieces m = header_pieces m ++ (attributes_pieces m ++ (flat_map def_pieces m.defs ++ (Break ∷ [] ++ put_word x.End)))
 
 -- ---- from pieces to bytes
 

@@ -1,0 +1,10 @@
+pub mod Tree
+pub mod Plain
+pub mod OfTable
+pub mod LetForm
+pub mod Normal
+pub mod Lexeme
+pub mod Layout
+pub mod Fresh
+pub mod Env
+pub mod Laws

@@ -1,5 +1,5 @@
 -- The calls of an object in memory, some of which are to fail.
-use Rattle.std.specs.Prelude.{ℕ, List, Bool, ◌==◌, ◌≡◌, true, false}
+use Rattle.std.specs.Prelude.{Bool, ◌==◌}
 use Rattle.std.specs.List.{list_any}
 use Rattle.ef_io.specs.declared.calls.Calls.{Calls}
 use Rattle.ef_io.specs.Count.{one_more}

@@ -1,7 +1,12 @@
 -- What files of the system and streams of the runtime show: no contents.
-use Rattle.std.specs.Prelude.{ℕ, List, Option, None, Some, Bool, true, false, ◌≡◌}
+use Rattle.std.specs.Prelude.{ℕ, List, ◌++◌, Option, None, Some, Bool, true, false, ◌≡◌}
 use Rattle.ef_io.specs.Sources.{SourcesView}
 use Rattle.ef_io.specs.Sink.{SinkView}
+
+-- bytes, and the same with more behind them
+pub record IsGrown (old new : List ℕ) : Type 0 where
+  pub more : List ℕ
+  pub is : new ≡ old ++ more
 
 abbrev pub sources_view : ℕ → Option (List ℕ) → SourcesView
 sources_view faults failed = record { files = None; faults = faults; failed = failed }

@@ -1,5 +1,5 @@
 -- What an output in memory shows, and what its creation does.
-use Rattle.std.specs.Prelude.{ℕ, ◌<◌, ◌≤◌, List, [], ◌≡◌, ◌⊎◌, length, Option, None, Some, Bool, true, false, Result, Ok, Err}
+use Rattle.std.specs.Prelude.{ℕ, ◌<◌, ◌≤◌, List, ◌≡◌, ◌⊎◌, length, Option, None, Some, Bool, true, false, Result, Ok, Err}
 use denote.Ref.{Bor}
 use Rattle.ef_io.specs.declared.sink.Failed.{Failed}
 use Rattle.ef_io.specs.declared.store.Store.{Store}

@@ -1,11 +1,11 @@
 -- What sources in memory show, and which of their calls fail.
-use Rattle.std.specs.Prelude.{ℕ, List, [], ◌∷◌, ◌≡◌, Option, None, Some, true, false, if◌then◌else◌, Result, Ok, Err}
+use Rattle.std.specs.Prelude.{ℕ, List, [], ◌∷◌, ◌≡◌, Option, None, Some, true, false, if◌then◌else◌, Result, Err}
 use Rattle.std.specs.Str.{bytes_eq}
-use Rattle.ef_io.specs.Sources.{SourcesView, Files}
+use Rattle.ef_io.specs.Sources.{SourcesView}
 use Rattle.ef_io.specs.Count.{one_more}
 use Rattle.ef_io.specs.Calls.{counted, is_failing}
 use Rattle.ef_io.specs.declared.sources.ReadRefusal.{ReadRefusal}
-use Rattle.ef_io.specs.declared.sources.ReadRefusal.TheVariants.{Absent, TooLarge, Failed, NoMemory}
+use Rattle.ef_io.specs.declared.sources.ReadRefusal.TheVariants.{Failed, NoMemory}
 use Rattle.ef_io.specs.declared.memory_sources.MemoryFile.{MemoryFile}
 use Rattle.ef_io.specs.declared.memory_sources.MemorySources.{MemorySources}
 

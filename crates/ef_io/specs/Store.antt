@@ -1,5 +1,5 @@
 -- Bytes in memory, with a fixed room for them.
-use Rattle.std.specs.Prelude.{ℕ, ◌-◌, ◌<◌, ◌≤◌, ◌≡◌, ◌⊎◌, List, [], ◌++◌, length, take, min, true, false, Result, Ok, Err, Vec}
+use Rattle.std.specs.Prelude.{ℕ, ◌-◌, ◌<◌, ◌≡◌, ◌⊎◌, List, [], ◌++◌, length, take, min, true, false, Result, Ok, Err, Vec}
 use Rattle.std.specs.declared.alloc.Global.{Global}
 use Rattle.ef_io.specs.declared.sink.Failed.{Failed}
 use Rattle.ef_io.specs.declared.store.Store.{Store}

@@ -1,6 +1,6 @@
 // The files of the system, as sources.
-ghost use Rattle.std.specs.Prelude.{◌≡◌, None, IfErr};
-ghost use Rattle.ef_io.specs.Files.{sources_view};
+ghost use Rattle.std.specs.Prelude.{◌≡◌, ◌≤◌, ◌+◌, None, OnOk, vec_len};
+ghost use Rattle.ef_io.specs.Files.{sources_view, IsGrown};
 
 use crate::calls::one_more;
 use crate::{ReadRefusal, Sources};
@@ -36,36 +36,30 @@ impl<R: Files> Sources for FileSources<'_, R> {
     ghost seen = { λ it. sources_view it.faults it.failed };
 
     fn read(&mut self, path: &str, limit: usize, into: &mut Vec<u8>) -> Result<(), ReadRefusal> {
-        let got = match content(self.rt, self.alloc, path, limit) {
-            Ok(got) => got,
-            Err(ReadRefusal::Failed) => {
-                self.failed = Some(Bytes::from_vec(path.as_bytes().to_vec(self.alloc)?));
-                self.faults = one_more(self.faults);
-                return Err(ReadRefusal::Failed);
-            }
-            Err(other) => return Err(other),
+        let start = into.len();
+        let Err(refusal) = append(self.rt, path, limit, into) else {
+            return Ok(());
         };
-        if got.len() > limit {
-            return Err(ReadRefusal::TooLarge);
+        into.truncate(start);
+        if refusal == ReadRefusal::Failed {
+            self.failed = Some(Bytes::from_vec(path.as_bytes().to_vec(self.alloc)?));
+            self.faults = one_more(self.faults);
         }
-        into.extend_from_slice(&got)?;
-        Ok(())
+        Err(refusal)
     }
 }
 
-// The content of a file, as far as one byte past the limit.
-fn content<R: Files>(
-    rt: &R,
-    alloc: Global,
-    path: &str,
-    limit: usize,
-) -> Result<Vec<u8>, ReadRefusal> {
+// Appends the content of a file, as far as one byte past the limit.
+fn append<R: Files>(rt: &R, path: &str, limit: usize, into: &mut Vec<u8>) -> Result<(), ReadRefusal>
+    ensures grown { IsGrown into.old.items into.new.items }
+    ensures within { OnOk result (vec_len into.new ≤ vec_len into.old + limit) }
+{
     let mut file = match fs::open(rt, path) {
         Ok(file) => file,
         Err(e) if names_no_file(&e) => return Err(ReadRefusal::Absent),
         Err(_) => return Err(ReadRefusal::Failed),
     };
-    let mut got = Vec::new(alloc);
+    let start = into.len();
     let mut left = limit.saturating_add(1);
     let mut buffer = [0u8; 8192];
     while left > 0 {
@@ -76,16 +70,16 @@ fn content<R: Files>(
         if n == 0 {
             break;
         }
-        got.extend_from_slice(&buffer[..n])?;
+        into.extend_from_slice(&buffer[..n])?;
         left -= n;
     }
-    Ok(got)
+    if into.len() - start > limit {
+        return Err(ReadRefusal::TooLarge);
+    }
+    Ok(())
 }
 
 // Nothing is there, or the path goes through what is no folder.
 fn names_no_file(error: &io::Error) -> bool {
-    matches!(
-        error.kind(),
-        ErrorKind::NotFound | ErrorKind::NotADirectory
-    )
+    matches!(error.kind(), ErrorKind::NotFound | ErrorKind::NotADirectory)
 }

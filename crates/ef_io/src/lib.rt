@@ -25,6 +25,5 @@ pub use sources::{ReadRefusal, Sources};
 pub use status::Status;
 pub use whole::{put, put_parts};
 
-
 #[cfg(test)]
 mod tests;

@@ -1,0 +1,4 @@
+pub mod Found
+pub mod Headline
+pub mod Told
+pub mod White

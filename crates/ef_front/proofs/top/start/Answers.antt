@@ -1,0 +1,7 @@
+use Rattle.std.proofs.Common.{sym, ◌∙◌}
+use Rattle.ef_front.proofs.Told.{prints_usage}
+use Rattle.ef_front.proofs.top.start.Goals as goal
+
+pub returns-in-Ok-None-clause-prints : goal.returns-in-Ok-None-clause-prints
+returns-in-Ok-None-clause-prints g c =
+    prints_usage _ _ _ _ _ c.refuse.result (sym c.in-Ok-None.ensures.job ∙ c.in-Ok-None.field-0-is) c.refuse.ensures.refuses

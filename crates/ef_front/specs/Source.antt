@@ -1,0 +1,51 @@
+-- The modules, the faults and the texts of a source: relations over its bytes.
+use Rattle.std.specs.Prelude.{ℕ, List, [], ◌∷◌, ◌≡◌, chars, IsUtf8}
+use Rattle.std.specs.List.{flat_map}
+use Rattle.ef_base.specs.declared.fault.Fault.{Fault}
+use Rattle.ef_base.specs.Faults.{set_of}
+use Rattle.ef_base.specs.Positions.{first_position, place_at}
+use Rattle.ef_base.specs.Texts.{Texts, AllDiffer}
+use Rattle.ef_token.specs.declared.token.Token.{Token}
+use Rattle.ef_token.specs.Lexeme.{Each, is_white}
+use Rattle.ef_scan.specs.Scan.{ScansTo}
+use Rattle.ef_forms.specs.Tree.{ModuleTree}
+use Rattle.ef_forms.specs.Built.{IsBuilt, functions_in}
+use Rattle.ef_forms.specs.Ways.{function_faults}
+use Rattle.ef_module.specs.Forms.{SpellsModule}
+use Rattle.ef_front.specs.Written.{IsWritten}
+
+-- the text is one of the module, whose names are those of the table
+pub record IsSource (all : Texts) (source : List ℕ) (m : ModuleTree) : Type 0 where
+  pub differ : AllDiffer all
+  pub forms : List (List Token)
+  pub scanned : ScansTo all 0 source forms
+  pub spelled : SpellsModule all m forms
+  pub built : IsBuilt all m
+
+-- white space alone
+pub record IsBlank (source : List ℕ) : Type 0 where
+  pub utf8 : IsUtf8 source
+  pub white : Each is_white (chars source)
+
+-- a fault at the start of the main file
+abbrev pub at_start : ℕ → List ℕ → Fault
+at_start code words = record { place = place_at 0 first_position; code = code; words = words }
+
+-- the faults of the functions
+abbrev pub module_faults : Texts → ModuleTree → List Fault
+module_faults all m = flat_map (function_faults all) (functions_in m.forms)
+
+-- the faults of a source, sorted: those of its module; of white space alone, that the module attribute lacks; of
+-- anything else, that it is not built
+pub data HasFaults (source : List ℕ) (faults : List Fault) : Type 0 where
+  blank : IsBlank source → faults ≡ at_start 308 [] ∷ [] → HasFaults source faults
+  of_module : (all : Texts) (m : ModuleTree) → IsSource all source m → faults ≡ set_of (module_faults all m) → HasFaults source faults
+  not_built : (IsBlank source → ⊥) → ((all : Texts) (m : ModuleTree) → IsSource all source m → ⊥) → faults ≡ at_start 500 [] ∷ []
+      → HasFaults source faults
+
+-- a text that may be written for a source
+pub record IsTextFor (source text : List ℕ) : Type 0 where
+  pub all : Texts
+  pub module_tree : ModuleTree
+  pub spelled : IsSource all source module_tree
+  pub written : IsWritten all module_tree text

@@ -1,0 +1,13 @@
+//! The top call: from the words of a command line to the printed faults of a module or to its written text.
+#![tactic(auto)]
+
+mod blank;
+mod compiling;
+mod job;
+mod listing;
+mod refused;
+mod telling;
+mod top;
+
+pub use telling::give_up;
+pub use top::erlfront;

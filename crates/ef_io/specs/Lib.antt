@@ -1,0 +1,10 @@
+pub mod Count
+pub mod Sources
+pub mod Sink
+pub mod Calls
+pub mod Store
+pub mod MemorySources
+pub mod MemorySink
+pub mod MemoryOutput
+pub mod Files
+pub mod Laws

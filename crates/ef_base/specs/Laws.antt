@@ -1,10 +1,10 @@
 -- Laws of tables of names and of sets of faults, for the crates above.
-use Rattle.std.specs.Prelude.{ℕ, ◌<◌, ◌≡◌, List, [], ◌∷◌, ◌++◌, length, slice_get, Some, get_or, refl}
+use Rattle.std.specs.Prelude.{ℕ, ◌<◌, ◌≡◌, List, [], ◌++◌, length, slice_get, Some, get_or}
 use Rattle.std.proofs.Common.{ap, ◌∙◌, sym, arith, subst, append_assoc, append-nil, length-append}
 use Rattle.std.proofs.lemmas.Option.{slice_get_within, slice_get-get_or, get_or_from_slice_get}
 use Rattle.std.proofs.lemmas.List.{get_or_append_left}
 use Rattle.ef_base.specs.declared.name.Name.{Name}
-use Rattle.ef_base.specs.Texts.{Texts, AllDiffer, Extends, HasName, IsNameOf, text}
+use Rattle.ef_base.specs.Texts.{Texts, AllDiffer, Extends, HasName, IsNameOf}
 
 -- a table is a later one of itself
 pub extends_same : (now : Texts) → Extends now now

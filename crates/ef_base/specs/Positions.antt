@@ -1,5 +1,5 @@
 -- Characters of a text, and where each stands.
-use Rattle.std.specs.Prelude.{ℕ, ◌+◌, ◌==◌, ◌≡◌, List, [], ◌∷◌, chars, IsUtf8, if◌then◌else◌}
+use Rattle.std.specs.Prelude.{ℕ, ◌+◌, ◌==◌, List, [], ◌∷◌, if◌then◌else◌}
 use Rattle.ef_base.specs.declared.fault.Place.{Place}
 
 -- a line and a column, each from 1; a column counts characters

@@ -1,15 +1,13 @@
 -- Whether a module is built is the same in every later table.
-use Rattle.std.proofs.Common.{◌≡◌, ℕ, List, [], ◌∷◌, refl, sym, ap, ◌∙◌, subst, ◌⊎◌, inl, inr, ◌++◌, map}
-use Rattle.std.specs.Prelude.{codes}
-use Rattle.std.specs.List.{flat_map}
+use Rattle.std.proofs.Common.{◌≡◌, ℕ, List, [], ◌∷◌, refl, sym, ◌∙◌, inl, inr, ◌++◌, map}
 use Rattle.ef_base.specs.declared.name.Name.{Name}
 use Rattle.ef_base.specs.Texts.{Texts, Extends, HasName, IsNameOf, text}
 use Rattle.ef_base.specs.Laws.{named_later}
 use Rattle.ef_forms.specs.declared.form.FunctionRef.{FunctionRef}
 use Rattle.ef_forms.specs.declared.tables.FunctionName.{FunctionName}
-use Rattle.ef_forms.specs.Tree.{Tree, Shape, Trees, Clauses, FunctionTree, FormTree, PlacedTree, ModuleTree, tree, int, atom, var, call, remote, end, more, no_guard, or_guard, no_clauses, clause, module_name, export, function, count}
+use Rattle.ef_forms.specs.Tree.{Tree, Trees, Clauses, FunctionTree, FormTree, PlacedTree, ModuleTree, tree, int, atom, var, call, remote, end, more, no_guard, or_guard, no_clauses, clause, module_name, export, function, count}
 use Rattle.ef_forms.specs.OfTable.{TreeOf, TreesOf, ClausesOf, FunctionOf, ReferencesOf, FormOf, FormsOf, ModuleOf}
-use Rattle.ef_forms.specs.Built.{IsDefined, IsModuleInfo, IsCallOf, IsForeignModule, IsBuiltTree, IsBuiltShape, AreBuilt, IsBuiltClauses, IsBuiltFunction, IsBuilt, Each, exports_in, exports_of, functions_in, functions_of, defined_in, name_of}
+use Rattle.ef_forms.specs.Built.{IsDefined, IsModuleInfo, IsCallOf, IsForeignModule, IsBuiltTree, AreBuilt, IsBuiltClauses, IsBuiltFunction, IsBuilt, Each, exports_in, exports_of, functions_in, functions_of, defined_in, name_of}
 
 -- the text of a name of the table stays
 pub text_later : (now all : Texts) (n : Name) → HasName now n → Extends now all → text all n ≡ text now n

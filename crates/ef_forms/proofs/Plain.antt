@@ -1,15 +1,12 @@
 -- The equations of `plain`, one for each variant.
-use Rattle.std.proofs.Common.{◌≡◌, ℤ, List, [], ◌∷◌, ◌++◌, refl, sym, ap, ◌∙◌, map, Vec, Box, length, arith}
+use Rattle.std.proofs.Common.{◌≡◌, ℤ, List, [], ◌∷◌, refl, sym, ap, ◌∙◌, Vec, Box, length, arith}
 use Rattle.std.specs.declared.alloc.Global.{Global}
 use Rattle.ef_base.specs.declared.name.Name.{Name}
-use Rattle.ef_base.specs.declared.fault.Place.{Place}
 use Rattle.ef_forms.specs.declared.expr.Expr.{Expr}
-use Rattle.ef_forms.specs.declared.expr.Node.{Node}
 use Rattle.ef_forms.specs.declared.expr.Node.TheVariants as node
 use Rattle.ef_forms.specs.declared.expr.Node.TheOpen as layer
 use Rattle.ef_forms.specs.declared.expr.Node.TheFolds.{fold-roll-Node, fold_out-Expr}
-use Rattle.ef_forms.specs.declared.expr.Clause.{Clause}
-use Rattle.ef_forms.specs.Tree.{Tree, Shape, Trees, tree, int, atom, var, call, remote, end, more, count}
+use Rattle.ef_forms.specs.Tree.{Tree, Shape, tree, int, atom, var, call, remote, count}
 use Rattle.ef_forms.specs.Plain.{plain, plain_node, plain_all, shape_layer, tree_layer}
 
 pub plain_expr : (e : Expr) → plain e ≡ tree e.place (plain_node e.node)

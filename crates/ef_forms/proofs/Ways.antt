@@ -1,13 +1,12 @@
 -- The faults of scope are the same in every later table.
-use Rattle.std.proofs.Common.{◌≡◌, List, [], ◌∷◌, ◌++◌, Bool, true, false, refl, sym, ap, ◌∙◌, cond}
+use Rattle.std.proofs.Common.{◌≡◌, List, [], ◌∷◌, ◌++◌, refl, ap, ◌∙◌, cond}
 use Rattle.std.specs.List.{flat_map}
 use Rattle.ef_base.specs.declared.name.Name.{Name}
 use Rattle.ef_base.specs.declared.fault.Place.{Place}
-use Rattle.ef_base.specs.declared.fault.Fault.{Fault}
-use Rattle.ef_base.specs.Texts.{Texts, Extends, HasName, text}
+use Rattle.ef_base.specs.Texts.{Texts, Extends, HasName}
 use Rattle.ef_forms.specs.Tree.{Tree, Trees, Clauses, FunctionTree, tree, int, atom, var, call, remote, end, more, no_clauses, clause}
 use Rattle.ef_forms.specs.OfTable.{TreeOf, TreesOf, ClausesOf, FunctionOf}
-use Rattle.ef_forms.specs.Ways.{NameSet, faults, all_faults, body_faults, clauses_faults, function_faults, use_faults, unbound, on_some, ways, bind, all_names, no_names}
+use Rattle.ef_forms.specs.Ways.{NameSet, faults, all_faults, body_faults, clauses_faults, function_faults, use_faults, on_some, ways, bind, all_names, no_names}
 use Rattle.ef_forms.proofs.Built.{text_later}
 
 module _ (now all : Texts) (later : Extends now all) where

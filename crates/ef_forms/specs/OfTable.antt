@@ -1,6 +1,5 @@
 -- Trees whose names are all of one table.
-use Rattle.std.specs.Prelude.{ℕ, List, [], ◌∷◌}
-use Rattle.ef_base.specs.declared.name.Name.{Name}
+use Rattle.std.specs.Prelude.{List, [], ◌∷◌}
 use Rattle.ef_base.specs.Texts.{Texts, HasName}
 use Rattle.ef_forms.specs.declared.form.FunctionRef.{FunctionRef}
 use Rattle.ef_forms.specs.Tree.{Tree, Shape, Trees, Guards, Clauses, FunctionTree, FormTree, PlacedTree, ModuleTree, tree, int, atom, var, call, remote, end, more, no_guard, or_guard, no_clauses, clause, module_name, export, function}

@@ -1,7 +1,6 @@
 -- The tree that a value of the program stands for.
-use Rattle.std.specs.Prelude.{ℕ, List, [], ◌∷◌, map, Vec, Box}
+use Rattle.std.specs.Prelude.{List, [], ◌∷◌, map, Vec}
 use Rattle.std.specs.declared.alloc.Global.{Global}
-use Rattle.ef_base.specs.declared.fault.Place.{Place}
 use Rattle.ef_forms.specs.declared.expr.Expr.{Expr}
 use Rattle.ef_forms.specs.declared.expr.Node.TheOpen as layer
 use Rattle.ef_forms.specs.declared.expr.Node.TheOpen.{Node-F, Expr-F}

@@ -1,7 +1,7 @@
 -- Which names may be bound after an expression, and which uses of names are faults, as far as trees are built.
 -- A way is the set of names that are bound on it. `ways e s` lists the ways that lead on from `e`, each grown from the
 -- one set `s` with which it starts.
-use Rattle.std.specs.Prelude.{ℕ, List, [], ◌∷◌, ◌++◌, Bool, true, false, ◌||◌, ◌==◌, map, if◌then◌else◌}
+use Rattle.std.specs.Prelude.{ℕ, List, [], ◌∷◌, ◌++◌, Bool, false, ◌||◌, ◌==◌, map, if◌then◌else◌}
 use Rattle.std.specs.List.{flat_map, list_any}
 use Rattle.ef_base.specs.declared.name.Name.{Name}
 use Rattle.ef_base.specs.declared.fault.Place.{Place}

@@ -1,10 +1,10 @@
 -- What the ways of an expression add to the sets from which they start.
-use Rattle.std.proofs.Common.{◌≡◌, ℕ, Bool, true, false, List, [], ◌∷◌, ◌++◌, refl, sym, ap, ◌∙◌, map, subst, append_assoc, append-nil}
-use Rattle.std.specs.Prelude.{◌||◌, ◌&&◌, ◌==◌}
+use Rattle.std.proofs.Common.{◌≡◌, ℕ, Bool, true, false, List, [], ◌∷◌, ◌++◌, refl, sym, ap, ◌∙◌, map, append_assoc, append-nil}
+use Rattle.std.specs.Prelude.{◌||◌, ◌&&◌}
 use Rattle.std.specs.List.{flat_map, list_any}
 use Rattle.ef_base.specs.declared.fault.Fault.{Fault}
 use Rattle.ef_base.specs.Faults.{set_of}
-use Rattle.ef_forms.specs.Tree.{Tree, Shape, Trees, tree, int, atom, var, call, remote, end, more}
+use Rattle.ef_forms.specs.Tree.{Tree, Trees, tree, int, atom, var, call, remote, end, more}
 use Rattle.ef_forms.specs.Ways.{NameSet, Way, union, stay, bind, before, pairs, beside, ways, shape_ways, side_by_side, no_names, one_name}
 use Rattle.ef_forms.specs.Ways as w
 use Rattle.ef_scope.specs.Bits.{bits_of}

@@ -1,30 +1,28 @@
 -- What is left of a list of trees while the walk goes over it.
-use Rattle.std.proofs.Common.{◌≡◌, ◌<◌, ◌+◌, ℕ, Bool, true, false, List, [], ◌∷◌, ◌++◌, length, drop, get_or, suc, add-one, refl, sym, ap, ◌∙◌, subst, append-nil, map, ◌≤◌, Box, Vec}
+use Rattle.std.proofs.Common.{◌≡◌, ◌<◌, ◌+◌, ℕ, Bool, true, false, List, [], ◌∷◌, ◌++◌, length, drop, get_or, suc, add-one, refl, sym, ap, ◌∙◌, subst, append-nil, ◌≤◌, Box, Vec}
 use Rattle.std.specs.declared.alloc.Global.{Global}
 use Rattle.std.specs.Prelude.{◌||◌}
 use Rattle.std.specs.List.{flat_map}
 use Rattle.std.proofs.Math.Seq.{drop-cons}
 use Rattle.std.proofs.lemmas.List.{drop_all}
 use Rattle.ef_forms.proofs.Plain.{plain_expr, plain_call, plain_remote}
-use Rattle.ef_forms.proofs.Built.{text_later}
 use Rattle.ef_base.specs.declared.name.Name.{Name}
 use Rattle.ef_base.specs.declared.fault.Place.{Place}
 use Rattle.ef_base.specs.declared.fault.Fault.{Fault}
 use Rattle.ef_base.specs.Faults.{set_of, insert_fault}
-use Rattle.ef_base.specs.Texts.{Texts, HasName, Extends, text}
+use Rattle.ef_base.specs.Texts.{Texts}
 use Rattle.ef_base.proofs.FaultLaws.{set_of-push}
 use Rattle.ef_forms.specs.declared.expr.Expr.{Expr}
 use Rattle.ef_forms.specs.declared.expr.Clause.{Clause}
-use Rattle.ef_forms.specs.declared.expr.Node.{Node}
 use Rattle.ef_forms.specs.declared.expr.Node.TheVariants as node
-use Rattle.ef_forms.specs.Tree.{Tree, Shape, Trees, tree, int, atom, var, call, remote, end, more}
+use Rattle.ef_forms.specs.Tree.{tree}
 use Rattle.ef_forms.specs.OfTable.{TreeOf, TreesOf, ClausesOf}
 use Rattle.ef_forms.specs.Plain.{plain, plain_node, plain_all, plain_clauses}
 use Rattle.ef_forms.specs.Ways.{NameSet, faults, all_faults, body_faults, clauses_faults, use_faults, unbound, on_some, ways, no_names, bind, all_names}
 use Rattle.ef_forms.specs.Ways as w
 use Rattle.ef_scope.specs.Bits.{bits_of}
-use Rattle.ef_scope.specs.Shows.{Shows, Adds, any_has}
-use Rattle.ef_scope.proofs.Grown.{adds_then, adds_none, grows, grows_bind, shows_more}
+use Rattle.ef_scope.specs.Shows.{Shows, Adds}
+use Rattle.ef_scope.proofs.Grown.{adds_then, adds_none, grows, shows_more}
 
 next : {A : Type 0} (xs : List A) (i : ℕ) (x : A) → i < length xs → x ≡ get_or xs i x → drop i xs ≡ x ∷ drop (i + 1) xs
 next xs i x small read = rw add-one (drop-cons xs i x small ∙ ap (λ z. z ∷ drop (suc i) xs) (sym read))
@@ -93,10 +91,12 @@ body_more texts exprs i e start bound bound' old found found' small read before 
     record {
       names = (subst (λ l. TreesOf texts (plain_all l)) at before.names).1;
       left = λ sets shows.
-        let was = before.left sets shows in
-        (flat_map (ways (plain e)) was.0, shows_more (ways (plain e)) (w.names (plain e)) was.0 bound bound' (grows (plain e)) was.1 binds,
-         λ new rest. was.2 new (subst (λ l. Adds (body_faults texts (plain_all l) was.0) found new) (sym at)
-           (adds_then found found' new (faults texts (plain e) was.0) (body_faults texts (plain_all (drop (i + 1) exprs)) (flat_map (ways (plain e)) was.0)) (here was.0 was.1) rest)));
+          let was = before.left sets shows in (
+            flat_map (ways (plain e)) was.0,
+            shows_more (ways (plain e)) (w.names (plain e)) was.0 bound bound' (grows (plain e)) was.1 binds,
+            λ new rest. was.2 new (subst (λ l. Adds (body_faults texts (plain_all l) was.0) found new) (sym at)
+                (adds_then found found' new (faults texts (plain e) was.0) (body_faults texts (plain_all (drop (i + 1) exprs)) (flat_map (ways (plain e)) was.0)) (here was.0 was.1) rest)),
+          );
     }
 
 -- ---- clauses
@@ -115,7 +115,7 @@ clauses_more texts clauses i c old found found' small read before here =
       names = (subst (λ l. ClausesOf texts (plain_clauses l)) at before.names).3;
       left = λ new rest. before.left new (subst (λ l. Adds (clauses_faults texts (plain_clauses l) (no_names ∷ [])) found new) (sym at)
           (adds_then found found' new body (clauses_faults texts (plain_clauses (drop (i + 1) clauses)) (no_names ∷ []))
-            (λ b known. here b known ∙ ap (λ l. set_of (b ++ l)) (append-nil body)) rest));
+          (λ b known. here b known ∙ ap (λ l. set_of (b ++ l)) (append-nil body)) rest));
     }
 
 pub first_clause : (texts : Texts) (clauses : List Clause) (i : ℕ) (c : Clause) → i < length clauses → c ≡ get_or clauses i c → ClausesOf texts (plain_clauses (drop i clauses)) → ClausesOf texts (plain_clauses (c ∷ []))
@@ -152,7 +152,7 @@ pub remote_adds : (texts : Texts) (e : Expr) (m f : Box Expr Global) (es : Vec E
 remote_adds texts e m f es sets old mid mid' new is one two three =
     subst (λ t. Adds (faults texts t sets) old new) (sym (plain_expr e ∙ ap (tree e.place) (ap plain_node is ∙ plain_remote m f es)))
     (adds_then old mid new (faults texts (plain m.value) sets) (faults texts (plain f.value) sets ++ all_faults texts (plain_all es.items) sets) one
-      (adds_then mid mid' new (faults texts (plain f.value) sets) (all_faults texts (plain_all es.items) sets) two three))
+    (adds_then mid mid' new (faults texts (plain f.value) sets) (all_faults texts (plain_all es.items) sets) two three))
 
 pub from_none : (texts : Texts) (clauses given_clauses : List Clause) (old new : List Fault) → given_clauses ≡ clauses → old ≡ []
     → Adds (clauses_faults texts (plain_clauses given_clauses) (no_names ∷ [])) old new → new ≡ set_of (clauses_faults texts (plain_clauses clauses) (no_names ∷ []))

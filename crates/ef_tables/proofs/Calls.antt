@@ -1,5 +1,5 @@
 -- Calls, exports and whole modules.
-use Rattle.std.proofs.Common.{◌≡◌, ℕ, List, [], ◌∷◌, ◌++◌, length, map, refl, sym, ap, ◌∙◌, subst, Bool, true, false, ◌≤◌, nat_eq, arith, Vec, Result, Ok, Err, IfOk}
+use Rattle.std.proofs.Common.{◌≡◌, List, [], ◌∷◌, ◌++◌, length, map, sym, ap, ◌∙◌, subst, Bool, true, false, ◌≤◌, arith, Vec, Result, Ok, Err, IfOk}
 use Rattle.std.specs.Prelude.{IsTrue, ◌↔◌, MatchOption, Option, Some}
 use Rattle.std.specs.declared.alloc.Global.{Global}
 use Rattle.ef_base.specs.declared.name.Name.{Name}
@@ -10,7 +10,7 @@ use Rattle.ef_forms.specs.declared.expr.Clause.{Clause}
 use Rattle.ef_forms.specs.declared.expr.Node.TheVariants as node
 use Rattle.ef_forms.specs.declared.form.FunctionRef.{FunctionRef}
 use Rattle.ef_forms.specs.declared.tables.FunctionName.{FunctionName}
-use Rattle.ef_forms.specs.Tree.{Tree, Trees, Guards, FormTree, PlacedTree, ModuleTree, tree, atom, count, no_guard, or_guard, clause, no_clauses, module_name, export, function}
+use Rattle.ef_forms.specs.Tree.{Trees, Guards, FormTree, PlacedTree, ModuleTree, tree, atom, count, no_guard, or_guard, clause, no_clauses, module_name, export, function}
 use Rattle.ef_forms.specs.OfTable.{FormOf, FormsOf, ReferencesOf, ModuleOf}
 use Rattle.ef_forms.specs.Built.{IsDefined, IsCallOf, IsDistinct, Each, IsBuilt, IsBuiltFunction, IsBuiltClauses, defined_in, exports_in, exports_of, functions_in, name_of}
 use Rattle.ef_forms.specs.Plain.{plain, plain_node, plain_all, plain_guard, plain_clauses}
@@ -53,14 +53,15 @@ pub says : (now : Texts) (m : ModuleTree) (b : Bool) (functions exports : List F
     → functions ≡ defined_in m.forms → exports ≡ exports_in m.forms
     → IsDistinct functions → IsDistinct exports → Each (IsDefined now functions) exports
     → (IsTrue b ↔ Each (IsBuiltFunction now functions) (functions_in m.forms)) → Tells now m b
-says now m b functions exports of f e distinct_f distinct_e defined bodies all later =
-    (λ yes. built_later now all m of later (record {
-      functions = subst IsDistinct f distinct_f;
-      exports = subst IsDistinct e distinct_e;
-      exported = subst (λ l. Each (IsDefined now l) (exports_in m.forms)) f (subst (Each (IsDefined now functions)) e defined);
-      bodies = subst (λ l. Each (IsBuiltFunction now l) (functions_in m.forms)) f (bodies.0 yes);
-    }),
-    λ built. bodies.1 (subst (λ l. Each (IsBuiltFunction now l) (functions_in m.forms)) (sym f) (built_before now all m of later built).bodies))
+says now m b functions exports of f e distinct_f distinct_e defined bodies all later = (
+  λ yes. built_later now all m of later (record {
+    functions = subst IsDistinct f distinct_f;
+    exports = subst IsDistinct e distinct_e;
+    exported = subst (λ l. Each (IsDefined now l) (exports_in m.forms)) f (subst (Each (IsDefined now functions)) e defined);
+    bodies = subst (λ l. Each (IsBuiltFunction now l) (functions_in m.forms)) f (bodies.0 yes);
+  }),
+  λ built. bodies.1 (subst (λ l. Each (IsBuiltFunction now l) (functions_in m.forms)) (sym f) (built_before now all m of later built).bodies),
+)
 
 pub if_ok : {T E : Type 0} (r : Result T E) (P Q : T → Type 0) → ((x : T) → P x → Q x) → IfOk r P → IfOk r Q
 if_ok (Ok x) P Q f h = f x h

@@ -1,5 +1,5 @@
 -- Heads of clauses as lists of names.
-use Rattle.std.proofs.Common.{◌≡◌, ◌<◌, ◌+◌, ℕ, zero, suc, List, [], ◌∷◌, ◌++◌, length, take, drop, get_or, map, refl, sym, ap, ◌∙◌, subst, arith, Option, Some, None, Bool, true, false, ◌⊎◌, inl, inr, nat_eq, add-one}
+use Rattle.std.proofs.Common.{◌≡◌, ◌<◌, ◌+◌, ℕ, zero, suc, List, [], ◌∷◌, ◌++◌, length, take, drop, get_or, map, refl, sym, ap, ◌∙◌, subst, arith, Some, None, Bool, true, false, ◌⊎◌, inl, inr, nat_eq, add-one}
 use Rattle.std.specs.Prelude.{IsTrue, ◌↔◌, ◌||◌}
 use Rattle.std.specs.List.{list_any}
 use Rattle.std.proofs.Math.Seq.{take-suc, drop-cons}
@@ -101,10 +101,13 @@ among_numbers x (y ∷ xs) b is =
     let rest = among_numbers x xs (list_any (λ z. nat_eq z x) xs) refl in
     elim (nat_eq y x) as (λ t. nat_eq y x ≡ t → b ≡ (t || list_any (λ z. nat_eq z x) xs) → IsTrue b ↔ ((name_of_index y ≡ name_of_index x) ⊎ IsAmong (name_of_index x) (map name_of_index xs))) [
       | true ↦ λ yes same. let equal : y ≡ x = grind (arith, nat_tests) in (λ _. inl (ap name_of_index equal), λ _. same)
-      | false ↦ λ no same. (λ yes. inr (rest.0 (sym same ∙ yes)), λ among. elim among [
+      | false ↦ λ no same. (
+        λ yes. inr (rest.0 (sym same ∙ yes)),
+        λ among. elim among [
           | inl equal ↦ let index : y ≡ x = ap (λ (n : Name). n.index) equal in let bad : nat_eq y x ≡ true = grind (arith, nat_tests) in cc
           | inr there ↦ same ∙ rest.1 there
-        ])
+        ],
+      )
     ] refl is
 
 pub record AreAlike (a b : List ℕ) : Type 0 where

@@ -1,12 +1,11 @@
 -- What a search of keys shows of the functions.
-use Rattle.std.proofs.Common.{◌≡◌, ℕ, Bool, true, false, cond, List, [], ◌∷◌, ◌++◌, refl, ap, ◌∙◌, sym, map, ◌⊎◌, inl, inr, nat_eq, subst, append_assoc, length, take, drop, get_or, ◌<◌, ◌+◌, suc, add-one}
+use Rattle.std.proofs.Common.{◌≡◌, ℕ, Bool, true, false, cond, List, [], ◌∷◌, ◌++◌, refl, ap, ◌∙◌, sym, map, ◌⊎◌, inl, inr, nat_eq, subst, length, take, drop, get_or, ◌<◌, ◌+◌, suc, add-one}
 use Rattle.std.specs.Prelude.{◌&&◌, ◌||◌, IsTrue, ◌↔◌, not}
 use Rattle.std.specs.List.{list_any}
 use Rattle.std.proofs.lemmas.List.{map-append, take-append-drop}
 use Rattle.std.proofs.Math.Seq.{take-suc, drop-cons}
 use Rattle.std.proofs.lemmas.Bool.Decides.{nat_tests}
 use Rattle.std.proofs.Common.{arith}
-use Rattle.ef_base.specs.declared.name.Name.{Name}
 use Rattle.ef_forms.specs.declared.tables.FunctionName.{FunctionName}
 use Rattle.ef_forms.specs.Built.{IsAmong, IsDistinct}
 use Rattle.ef_tables.specs.Sets.{function_of, Inserts}
@@ -81,11 +80,13 @@ among_parts x (y ∷ xs) ys (inr more) = elim (among_parts x xs ys more) [ inl a
 -- one more at the end
 pub distinct_more : {A : Type 0} (x : A) (xs : List A) → IsDistinct xs → (IsAmong x xs → ⊥) → IsDistinct (xs ++ x ∷ [])
 distinct_more x [] distinct new = (λ h. h, tt)
-distinct_more x (y ∷ xs) distinct new =
-    (λ among. elim (among_parts y xs (x ∷ []) among) [
-      | inl a ↦ distinct.0 a
-      | inr b ↦ elim b [ inl same ↦ new (inl (sym same)) | inr none ↦ none ]
-    ], distinct_more x xs distinct.1 (λ a. new (inr a)))
+distinct_more x (y ∷ xs) distinct new = (
+  λ among. elim (among_parts y xs (x ∷ []) among) [
+    | inl a ↦ distinct.0 a
+    | inr b ↦ elim b [ inl same ↦ new (inl (sym same)) | inr none ↦ none ]
+  ],
+  distinct_more x xs distinct.1 (λ a. new (inr a)),
+)
 
 among_middle : {A : Type 0} (x : A) (xs ys : List A) → IsAmong x (xs ++ x ∷ ys)
 among_middle x [] ys = inl refl
@@ -110,9 +111,10 @@ pub distinct_step : {A : Type 0} (xs seen seen' : List A) (i : ℕ) (x : A) → 
     → (seen ≡ take i xs) × IsDistinct (take i xs) → (IsAmong x seen → ⊥) → seen' ≡ seen ++ x ∷ []
     → (seen' ≡ take (i + 1) xs) × IsDistinct (take (i + 1) xs)
 distinct_step {A} xs seen seen' i x small read before new grown =
-    let more = front xs i x small read in
-    (grown ∙ ap (λ l. l ++ x ∷ []) before.0 ∙ sym more,
-     subst IsDistinct (sym more) (distinct_more x (take i xs) before.1 (λ among. new (subst (IsAmong x) (sym before.0) among))))
+    let more = front xs i x small read in (
+      grown ∙ ap (λ l. l ++ x ∷ []) before.0 ∙ sym more,
+      subst IsDistinct (sym more) (distinct_more x (take i xs) before.1 (λ among. new (subst (IsAmong x) (sym before.0) among))),
+    )
 
 -- one that was there
 pub distinct_stop : {A : Type 0} (xs seen : List A) (i : ℕ) (x : A) → i < length xs → x ≡ get_or xs i x

@@ -215,7 +215,9 @@ fn is_built_expr(names: &Names, defined: &FunctionSet, expr: &Expr) -> bool
             module,
             function,
             args,
-        } => is_foreign_module(names, module) && is_atom(function) && are_built(names, defined, args),
+        } => is_foreign_module(names, module)
+            && is_atom(function)
+            && are_built(names, defined, args),
     }
 }
 

@@ -1,4 +1,4 @@
-use Rattle.std.proofs.Common.{◌∙◌, sym, ap, [], subst}
+use Rattle.std.proofs.Common.{◌∙◌, sym, ap}
 use Rattle.ef_base.specs.Faults.{set_of}
 use Rattle.ef_forms.specs.Plain.{plain_function}
 use Rattle.ef_forms.proofs.Ways.{faults_later}

@@ -1,4 +1,4 @@
-use Rattle.std.proofs.Common.{◌≡◌, ◌∙◌, ap}
+use Rattle.std.proofs.Common.{◌∙◌, ap}
 use Rattle.ef_scope.specs.Bits.{bits_of}
 use Rattle.ef_scope.proofs.Words.{more_zeros}
 use Rattle.ef_scope.proofs.row.grow.Goals as goal

@@ -1,4 +1,4 @@
-use Rattle.std.proofs.Common.{◌≡◌, ℕ, ◌-◌, ◌+◌, vec_len}
+use Rattle.std.proofs.Common.{◌≡◌, ℕ, ◌-◌, vec_len}
 use Rattle.ef_scope.specs.Bits.{bits_of}
 use Rattle.ef_scope.proofs.row.grow.Given as goal
 

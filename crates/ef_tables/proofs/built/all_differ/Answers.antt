@@ -23,4 +23,4 @@ loop-at-preserved c =
     let among = subst (λ l. IsTrue c.stands_in.result ↔ IsAmong (name_of_index (get_or numbers at 0)) (map name_of_index l)) rest c.stands_in.ensures in
     let read : get_or numbers at 0 ≡ get_or numbers at (get_or numbers at 0) = grind (arith, common_steps) in
     alike_more numbers at (get_or numbers at 0) c.loop-at-test.true read c.loop-at.invariant
-      (λ there. let bad : false ≡ true = sym c.if-stands_in.false ∙ among.1 there in cc)
+    (λ there. let bad : false ≡ true = sym c.if-stands_in.false ∙ among.1 there in cc)

@@ -1,5 +1,4 @@
-use Rattle.std.proofs.Common.{take, drop}
-use Rattle.std.specs.Prelude.{◌↔◌}
+use Rattle.std.proofs.Common.{drop}
 use Rattle.ef_forms.specs.Built.{Each, IsDefined}
 use Rattle.ef_tables.proofs.built.are_defined.Given as goal
 

@@ -1,4 +1,4 @@
-use Rattle.std.proofs.Common.{◌≡◌, ◌∙◌, sym, subst, map}
+use Rattle.std.proofs.Common.{subst, map}
 use Rattle.std.specs.Prelude.{IsTrue, ◌↔◌}
 use Rattle.ef_forms.specs.Plain.{plain_all}
 use Rattle.ef_forms.specs.Built.{IsDistinct}

@@ -1,6 +1,5 @@
-use Rattle.std.proofs.Common.{◌≡◌, subst, get_or, arith}
+use Rattle.std.proofs.Common.{subst, arith}
 use Rattle.std.proofs.lemmas.Grind.{common_steps}
-use Rattle.ef_forms.specs.declared.tables.FunctionName.{FunctionName}
 use Rattle.ef_tables.specs.Sets.{Inserts}
 use Rattle.ef_tables.proofs.Sets.{distinct_step, distinct_stop}
 use Rattle.ef_tables.proofs.built.distinct.Goals as goal

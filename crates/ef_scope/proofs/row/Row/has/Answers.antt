@@ -1,4 +1,4 @@
-use Rattle.std.proofs.Common.{◌≡◌, ℕ, ◌∙◌, ◌/◌, ap, arith, sym, get_or}
+use Rattle.std.proofs.Common.{◌∙◌, ◌/◌, ap, get_or}
 use Rattle.ef_scope.proofs.Words.{read_bit}
 use Rattle.ef_scope.proofs.row.Row.has.Goals as goal
 

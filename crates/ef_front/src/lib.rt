@@ -11,3 +11,6 @@ mod top;
 
 pub use telling::give_up;
 pub use top::erlfront;
+
+#[cfg(test)]
+mod tests;

@@ -54,6 +54,7 @@ gap_on {L} {Gap} {Spelled} facts g h a b gap_g gap_h e s = go (fronts g h a b e)
         let yes : facts.begins_gap c ≡ true = facts.gap c m k in
         let no : facts.begins_gap c ≡ false = subst (Begins facts.begins_gap false) f t in
         cc
+
     go : ((m : List ℕ) × (h ≡ g ++ m) × (a ≡ m ++ b)) ⊎ ((m : List ℕ) × (g ≡ h ++ m) × (b ≡ m ++ a)) → (m : List ℕ) × (h ≡ g ++ m) × (a ≡ m ++ b) × Gap m
     go (inl k) = (k.0, k.1, k.2, facts.behind g k.0 gap_g (subst Gap k.1 gap_h))
     go (inr k) =
@@ -68,6 +69,7 @@ same_front {L} {Gap} {Spelled} facts l m f f' r r' h h' g g' e = last (go (front
     go : ((m : List ℕ) × (f' ≡ f ++ m) × (r ≡ m ++ r')) ⊎ ((m : List ℕ) × (f ≡ f' ++ m) × (r' ≡ m ++ r)) → (f ≡ f') × (r ≡ r')
     go (inl k) = let z : k.0 ≡ [] = g k.0 r' m k.2 (subst (λ t. Spelled m t r') k.1 h') in (sym (k.1 ∙ ap (λ m. f ++ m) z ∙ append-nil f), k.2 ∙ ap (λ m. m ++ r') z)
     go (inr k) = let z : k.0 ≡ [] = g' k.0 r l k.2 (subst (λ t. Spelled l t r) k.1 h) in (k.1 ∙ ap (λ m. f' ++ m) z ∙ append-nil f', sym (k.2 ∙ ap (λ m. m ++ r) z))
+
     last : (f ≡ f') × (r ≡ r') → (f ≡ f') × (r ≡ r') × (l ≡ m)
     last k = (k.0, k.1, facts.one l m f r h (subst (λ t. Spelled m t r) (sym k.0) (subst (λ t. Spelled m f' t) (sym k.1) h')))
 
@@ -79,6 +81,7 @@ ended {L} {Gap} {Spelled} facts text g a last e gap s = go last
     hits : (b : List ℕ) → Gap b → Begins facts.begins_gap false b → ⊥
     hits [] k t = t
     hits (c ∷ b) k t = let yes : facts.begins_gap c ≡ true = facts.gap c b k in cc
+
     go : Gap text ⊎ Gap (text ++ 10 ∷ []) → ⊥
     go (inl k) = hits a (facts.behind g a gap (subst Gap e k)) s
     go (inr k) =
@@ -114,9 +117,17 @@ took_cut {L} {Gap} {Spelled} facts at there text rest [] [] h c = go c
     go (inl k) = inl (subst Gap (sym h.1) (facts.join h.0 rest h.2 k))
     go (inr k) =
         inr (subst Gap (sym (ap (λ t. t ++ 10 ∷ []) h.1 ∙ append_assoc h.0 rest (10 ∷ []))) (facts.join h.0 (rest ++ 10 ∷ []) h.2 k))
-took_cut facts at there text rest [] (m ∷ ms) h c =
-    (h.0 ++ c.0, c.1, c.2, h.1 ∙ ap (λ t. h.0 ++ t) c.3 ∙ sym (append_assoc h.0 c.0 (c.1 ++ c.2)), facts.join h.0 c.0 h.2 c.4,
-     c.5 ∙ ap (λ p. position_after p c.0) h.3 ∙ sym (position_after-append at h.0 c.0), c.6, c.7, c.8)
+took_cut facts at there text rest [] (m ∷ ms) h c = (
+  h.0 ++ c.0,
+  c.1,
+  c.2,
+  h.1 ∙ ap (λ t. h.0 ++ t) c.3 ∙ sym (append_assoc h.0 c.0 (c.1 ++ c.2)),
+  facts.join h.0 c.0 h.2 c.4,
+  c.5 ∙ ap (λ p. position_after p c.0) h.3 ∙ sym (position_after-append at h.0 c.0),
+  c.6,
+  c.7,
+  c.8,
+)
 took_cut facts at there text rest (l ∷ ls) ms h c =
     (h.0, h.1, h.2, h.3, h.4, h.5, h.6, h.7, took_cut facts (position_after l.at h.1) there h.2 rest ls ms h.8 c)
 
@@ -129,9 +140,11 @@ took_only {L} {Gap} {Spelled} facts at there text rest [] [] h c = ([], refl, go
     go (inl k) = inl (facts.behind h.0 rest h.2 (subst Gap h.1 k))
     go (inr k) = inr (facts.behind h.0 (rest ++ 10 ∷ []) h.2 (subst Gap (ap (λ t. t ++ 10 ∷ []) h.1 ∙ append_assoc h.0 rest (10 ∷ [])) k))
 took_only facts at there text rest [] (m ∷ ms) h c =
-    let on = gap_on facts h.0 c.0 rest (c.1 ++ c.2) h.2 c.4 (sym h.1 ∙ c.3) (begins_on facts.begins_gap false c.1 c.2 (facts.lexeme m.lexeme c.1 c.2 c.6)) in
-    (m ∷ ms, refl,
-     (on.0, c.1, c.2, on.2, on.3, c.5 ∙ ap (λ g. position_after at g) on.1 ∙ position_after-append at h.0 on.0 ∙ ap (λ p. position_after p on.0) (sym h.3), c.6, c.7, c.8))
+    let on = gap_on facts h.0 c.0 rest (c.1 ++ c.2) h.2 c.4 (sym h.1 ∙ c.3) (begins_on facts.begins_gap false c.1 c.2 (facts.lexeme m.lexeme c.1 c.2 c.6)) in (
+      m ∷ ms,
+      refl,
+      (on.0, c.1, c.2, on.2, on.3, c.5 ∙ ap (λ g. position_after at g) on.1 ∙ position_after-append at h.0 on.0 ∙ ap (λ p. position_after p on.0) (sym h.3), c.6, c.7, c.8),
+    )
 took_only facts at there text rest (l ∷ ls) [] h c =
     absurd (ended facts text h.0 (h.1 ++ h.2) c h.3 h.4 (begins_on facts.begins_gap false h.1 h.2 (facts.lexeme l.lexeme h.1 h.2 h.6)))
 took_only {L} {Gap} {Spelled} facts at there text rest (l ∷ ls) (m ∷ ms) h c =
@@ -143,7 +156,7 @@ took_only {L} {Gap} {Spelled} facts at there text rest (l ∷ ls) (m ∷ ms) h c
     let here : l ≡ m = placed_same l m same.2 at_same in
     let place : position_after m.at c.1 ≡ position_after l.at h.1 = ap (λ p. position_after p c.1) (sym at_same) ∙ ap (λ f. position_after l.at f) (sym same.0) in
     let left : Cuts Gap Spelled (position_after l.at h.1) h.2 ms =
-        subst (λ t. Cuts Gap Spelled (position_after l.at h.1) t ms) (sym same.1) (subst (λ p. Cuts Gap Spelled p c.2 ms) place c.8) in
+    subst (λ t. Cuts Gap Spelled (position_after l.at h.1) t ms) (sym same.1) (subst (λ p. Cuts Gap Spelled p c.2 ms) place c.8) in
     let on = took_only facts (position_after l.at h.1) there h.2 rest ls ms h.8 left in
     (on.0, ap (λ x. x ∷ ms) (sym here) ∙ ap (λ t. l ∷ t) on.1, on.2)
   where
@@ -156,6 +169,7 @@ took_only {L} {Gap} {Spelled} facts at there text rest (l ∷ ls) (m ∷ ms) h c
             let yes : facts.begins_gap c ≡ true = facts.gap c m z in
             let no : facts.begins_gap c ≡ false = subst (Begins facts.begins_gap false) f t in
             cc
+
         go : (m : List ℕ) × (g' ≡ g ++ m) × (a ≡ m ++ a') × Gap m → (g ≡ g') × (a ≡ a')
         go on =
             let none : on.0 ≡ [] = empty on.0 on.3 on.2 s in

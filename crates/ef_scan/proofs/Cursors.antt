@@ -1,11 +1,11 @@
 -- Steps of a cursor.
-use Rattle.std.proofs.Common.{ℕ, ◌+◌, ◌<◌, ◌≤◌, ◌^◌, ◌≡◌, true, List, [], ◌∷◌, ◌++◌, length, take, drop, chars, ◌-◌, arith, refl, subst, sym, ap, ◌∙◌, append-nil, append_assoc, length-drop}
+use Rattle.std.proofs.Common.{ℕ, ◌+◌, ◌<◌, ◌≤◌, ◌≡◌, true, [], ◌∷◌, ◌++◌, length, take, drop, chars, ◌-◌, arith, refl, subst, sym, ap, ◌∙◌, append_assoc, length-drop}
 use Rattle.std.proofs.lemmas.List.{take-append-drop}
 use Rattle.std.specs.Prelude.{IsUtf8, encode_utf8}
 use Rattle.std.proofs.lemmas.Str.{chars_past_char, IsUtf8-past_char}
-use Rattle.ef_base.specs.Positions.{Position, next_position, position_after}
+use Rattle.ef_base.specs.Positions.{next_position}
 use Rattle.ef_base.proofs.CutLaws.{position_after-append}
-use Rattle.ef_token.specs.Lexeme.{Each, Gap, none, white, is_white}
+use Rattle.ef_token.specs.Lexeme.{Each, none, white, is_white}
 use Rattle.ef_scan.specs.declared.cursor.Cursor.{Cursor}
 use Rattle.ef_scan.specs.Pieces.{IsInText, IsBehindWhite, IsBehindGap, IsBehindFront, is_plain, position_of}
 use Rattle.ef_scan.proofs.Lexemes.{gap_join}

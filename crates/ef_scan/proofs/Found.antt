@@ -1,7 +1,7 @@
 -- What stands at the front of a text, and what cannot.
-use Rattle.std.proofs.Common.{ℕ, zero, suc, ◌+◌, ◌<◌, ◌≤◌, ◌^◌, ◌≡◌, ◌≢◌, Bool, true, false, List, [], ◌∷◌, ◌++◌, length, take, drop, chars, arith, refl, subst, sym, ap, ◌∙◌, length-append}
+use Rattle.std.proofs.Common.{ℕ, zero, suc, ◌<◌, ◌≤◌, ◌^◌, ◌≡◌, ◌≢◌, Bool, true, false, List, [], ◌∷◌, ◌++◌, length, take, drop, chars, arith, refl, subst, sym, ap, ◌∙◌, length-append}
 use Rattle.std.proofs.lemmas.Str.{chars-nil}
-use Rattle.std.specs.Prelude.{IsUtf8, nat_le, ◌&&◌, ◌||◌, ◌==◌, Option, Some, None}
+use Rattle.std.specs.Prelude.{IsUtf8, nat_le, Some, None}
 use Rattle.std.proofs.lemmas.List.{take-append-drop, length-take-le}
 use Rattle.std.proofs.lemmas.Bool.Decides.{nat_tests}
 use denote.Ref.{Bor}
@@ -14,7 +14,6 @@ use Rattle.ef_token.specs.Words.{word_text, sym_text}
 use Rattle.ef_token.specs.Lexeme as x
 use Rattle.ef_token.specs.Lexeme.{Lexeme, Spelled, EndsForm, Each, BeginsAndGoesOn, is_lower, is_upper, is_digit, is_name_part, is_white, number_after}
 use Rattle.ef_scan.specs.declared.piece.Piece.TheVariants as piece
-use Rattle.ef_scan.specs.declared.piece.Found.{Found}
 use Rattle.ef_scan.specs.Pieces.{Stops, is_plain, IsRun, Fits, IsLongestSymbol, IsValue, IsAt, IsFound, IsBuilt, IsNotBuilt}
 use Rattle.ef_scan.proofs.Spellings.{sort, BeginsAs, symbol_facts}
 use Rattle.ef_scan.proofs.Lexemes.{sort_of, begins_as, cut_facts, goes_on, longest_run, longest_symbol}

@@ -1,13 +1,12 @@
 -- The lexemes and gaps of the source have the facts that make a cut unique, and which fronts are the longest.
-use Rattle.std.specs.Prelude.{ℕ, ◌+◌, ◌<◌, ◌==◌, ◌&&◌, ◌||◌, ◌≡◌, ◌≢◌, Bool, true, false, List, [], ◌∷◌, ◌++◌, length, nat_le, nat_lt, if◌then◌else◌, refl}
-use Rattle.std.proofs.Common.{ap, ◌∙◌, sym, subst, arith, length-append, append-nil}
+use Rattle.std.specs.Prelude.{ℕ, ◌+◌, ◌<◌, ◌==◌, ◌≡◌, ◌≢◌, Bool, true, false, List, [], ◌∷◌, ◌++◌, length, nat_le, if◌then◌else◌, refl}
+use Rattle.std.proofs.Common.{ap, ◌∙◌, sym, subst, arith, length-append}
 use Rattle.std.proofs.lemmas.Bool.Decides.{nat_tests}
 use Rattle.ef_base.specs.Cut.{Longest}
 use Rattle.ef_base.proofs.CutLaws.{OneCut, Begins}
-use Rattle.ef_token.specs.declared.word.Word.{Word}
 use Rattle.ef_token.specs.declared.word.Sym.{Sym}
 use Rattle.ef_token.specs.declared.word.Sym.TheVariants as symbols
-use Rattle.ef_token.specs.Words.{word_text, sym_text}
+use Rattle.ef_token.specs.Words.{sym_text}
 use Rattle.ef_token.specs.Lexeme as x
 use Rattle.ef_token.specs.Lexeme.{Lexeme, Gap, Spelled, EndsForm, Each, BeginsAndGoesOn, is_lower, is_upper, is_digit, is_name_part, is_white, is_within}
 use Rattle.ef_scan.specs.Pieces.{Stops}

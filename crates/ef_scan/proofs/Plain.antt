@@ -3,11 +3,11 @@ use Rattle.std.specs.Prelude.{ℕ, ◌+◌, ◌<◌, ◌≤◌, ◌≡◌, Bool,
 use Rattle.std.specs.Str.{IsAscii, IsCharBoundary}
 use Rattle.std.proofs.Common.{get_or, zero, suc, ap, ◌∙◌, sym, subst, arith, length-append}
 use Rattle.std.proofs.lemmas.Bool.Decides.{nat_tests}
-use Rattle.std.proofs.lemmas.Str.{chars-nil, encode_ascii, chars_past_char, encodes-chars, encodes-append, encodes-IsAscii, IsUtf8-past_char, IsCharBoundary-at_seam, byte_from_char, length-encode, len_utf8_bounds}
+use Rattle.std.proofs.lemmas.Str.{encode_ascii, chars_past_char, encodes-chars, encodes-append, encodes-IsAscii, IsUtf8-past_char, IsCharBoundary-at_seam, byte_from_char, length-encode, len_utf8_bounds}
 use Rattle.std.specs.Char.{len_utf8}
 use Rattle.std.proofs.lemmas.List.{take-append-drop, length-take-le}
 use Rattle.ef_base.specs.Positions.{Position, next_position, position_after}
-use Rattle.ef_token.specs.Lexeme.{Each, is_within}
+use Rattle.ef_token.specs.Lexeme.{Each}
 use Rattle.ef_scan.specs.Pieces.{Stops, is_plain}
 
 pub plain_small : (c : ℕ) → is_plain c ≡ true → c < 128

@@ -1,5 +1,5 @@
 -- Runs of characters of one class.
-use Rattle.std.proofs.Common.{ℕ, zero, suc, ◌+◌, ◌*◌, ◌-◌, ◌<◌, ◌≤◌, ◌≡◌, Bool, true, false, List, [], ◌∷◌, length, take, drop, get_or, arith, refl, subst, sym, ap, ◌∙◌, add-one}
+use Rattle.std.proofs.Common.{ℕ, zero, suc, ◌+◌, ◌*◌, ◌-◌, ◌<◌, ◌≡◌, Bool, true, false, List, [], ◌∷◌, length, take, drop, get_or, arith, refl, subst, sym, ap, ◌∙◌, add-one}
 use Rattle.std.proofs.Math.Seq.{drop-length}
 use Rattle.ef_token.specs.Lexeme.{Each, number_after}
 use Rattle.ef_scan.specs.Pieces.{Stops, IsRun}

@@ -1,5 +1,5 @@
 -- What is gathered is of the text's cut, and where there is no more to gather the text has no other cut.
-use Rattle.std.proofs.Common.{ℕ, ◌+◌, ◌<◌, ◌≤◌, ◌≡◌, ◌≢◌, Bool, true, false, List, [], ◌∷◌, ◌++◌, length, take, drop, chars, arith, refl, subst, sym, ap, ◌∙◌, append-nil, append_assoc, length-drop, inl, inr, zero, suc, ◌-◌}
+use Rattle.std.proofs.Common.{ℕ, ◌+◌, ◌<◌, ◌≡◌, ◌≢◌, true, false, List, [], ◌∷◌, ◌++◌, length, take, drop, chars, arith, refl, subst, sym, ap, ◌∙◌, append-nil, length-drop, inl, inr, zero, suc, ◌-◌}
 use Rattle.std.specs.Prelude.{IsUtf8, ◌⊎◌, ◌==◌, encode_utf8_all, Result, Ok, Err, IfOk}
 use Rattle.std.proofs.Common.{Vec, Global}
 use Rattle.std.proofs.lemmas.Bool.Decides.{nat_tests}
@@ -8,9 +8,9 @@ use Rattle.std.proofs.lemmas.Str.{encodes-chars, chars-nil}
 use Rattle.ef_base.specs.Texts.{Texts, AllDiffer, Extends}
 use Rattle.ef_base.specs.Laws.{extends_same, extends_later}
 use Rattle.ef_base.specs.Positions.{Position, first_position, position_after, place_at}
-use Rattle.ef_base.specs.Cut.{Placed, Cuts, LastGap, Longest}
+use Rattle.ef_base.specs.Cut.{Placed, Cuts, LastGap}
 use Rattle.ef_base.specs.Taken.{Took}
-use Rattle.ef_base.proofs.CutLaws.{took_none, took_gap, took_lexeme, took_cut, took_only, one_cut}
+use Rattle.ef_base.proofs.CutLaws.{took_gap, took_lexeme, took_cut, took_only, one_cut}
 use Rattle.ef_token.specs.Lexeme as x
 use Rattle.ef_token.specs.Lexeme.{Lexeme, Gap, Spelled, AreTokens, IsKind, is_white, CutsInto}
 use Rattle.ef_token.specs.declared.token.TokenKind.{TokenKind}
@@ -20,8 +20,8 @@ use Rattle.ef_token.specs.declared.token.ScannedForm.{ScannedForm}
 use Rattle.ef_scan.specs.declared.cursor.Cursor.{Cursor}
 use Rattle.ef_scan.specs.declared.gathered.Gathered.{Gathered}
 use Rattle.ef_scan.specs.declared.piece.Found.{Found}
-use Rattle.ef_scan.specs.Pieces.{Stops, is_plain, IsFound, IsBuilt, IsNotBuilt, lexeme_of, position_of, IsInText, IsBehindGap, IsBehindFront}
-use Rattle.ef_scan.specs.Scan.{IsForm, AreForms, AreOf, joined, ScansTo, IsForeign, IsScanned, HasOneCut, not_built}
+use Rattle.ef_scan.specs.Pieces.{Stops, is_plain, IsFound, IsBuilt, IsNotBuilt, lexeme_of, position_of, IsBehindGap, IsBehindFront}
+use Rattle.ef_scan.specs.Scan.{IsForm, AreForms, AreOf, joined, IsForeign, IsScanned, HasOneCut, not_built}
 use Rattle.ef_scan.proofs.Gathering.{is_scanned}
 use Rattle.ef_base.specs.declared.fault.Fault.{Fault}
 use Rattle.ef_token.specs.declared.token.ScannedForm.TheVariants.{Faulty}

@@ -1,6 +1,6 @@
 -- What the spellings of reserved words and symbols tell.
-use Rattle.std.specs.Prelude.{ℕ, ◌+◌, ◌*◌, ◌==◌, ◌≡◌, Bool, true, false, List, [], ◌∷◌, length, nat_le, Option, Some, None, if◌then◌else◌, refl}
-use Rattle.std.proofs.Common.{ap, ◌∙◌, sym}
+use Rattle.std.specs.Prelude.{ℕ, ◌+◌, ◌*◌, ◌==◌, ◌≡◌, true, false, List, [], ◌∷◌, length, nat_le, Option, Some, None, if◌then◌else◌, refl}
+use Rattle.std.proofs.Common.{ap}
 use Rattle.ef_token.specs.declared.word.Word.{Word}
 use Rattle.ef_token.specs.declared.word.Word.TheVariants as word
 use Rattle.ef_token.specs.declared.word.Sym.{Sym}

@@ -1,5 +1,5 @@
 -- What the scanner has gathered: whole forms, and the tokens of one that is not ended.
-use Rattle.std.specs.Prelude.{ℕ, ◌≡◌, ◌≢◌, List, [], ◌∷◌, ◌++◌, length, chars, MatchOption, Option}
+use Rattle.std.specs.Prelude.{ℕ, ◌≡◌, ◌≢◌, List, [], ◌∷◌, ◌++◌, chars}
 use Rattle.ef_base.specs.Texts.{Texts, AllDiffer, Extends}
 use Rattle.ef_base.specs.Positions.{first_position}
 use Rattle.ef_base.specs.Cut.{Placed}
@@ -11,7 +11,7 @@ use Rattle.ef_token.specs.declared.token.ScannedForm.{ScannedForm}
 use Rattle.ef_scan.specs.declared.cursor.Cursor.{Cursor}
 use Rattle.ef_scan.specs.declared.gathered.Gathered.{Gathered}
 use Rattle.ef_scan.specs.Pieces.{IsInText, Stops, position_of}
-use Rattle.ef_scan.specs.Scan.{AreForms, AreOf, joined, ScansTo, IsForeign}
+use Rattle.ef_scan.specs.Scan.{AreForms, AreOf, joined, ScansTo}
 
 -- no token is a full stop
 abbrev pub IsOpen : List Token → Type 0

@@ -1,5 +1,5 @@
 -- Lexemes as the scanner finds them at the front of a text, and where it stands.
-use Rattle.std.specs.Prelude.{ℕ, ◌+◌, ◌*◌, ◌-◌, ◌^◌, ◌<◌, ◌≤◌, ◌≡◌, ◌≢◌, Bool, true, false, List, [], ◌∷◌, ◌++◌, length, take, drop, chars, IsUtf8, Option, Some, None}
+use Rattle.std.specs.Prelude.{ℕ, ◌+◌, ◌^◌, ◌<◌, ◌≤◌, ◌≡◌, ◌≢◌, Bool, true, false, List, [], ◌∷◌, ◌++◌, length, take, drop, chars, IsUtf8, Option, Some, None}
 use Rattle.ef_base.specs.Positions.{Position, next_position, position_after}
 use Rattle.ef_base.specs.Cut.{Longest}
 use Rattle.ef_token.specs.declared.word.Sym.{Sym}

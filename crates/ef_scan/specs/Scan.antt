@@ -5,7 +5,6 @@ use Rattle.ef_base.specs.Texts.{Texts}
 use Rattle.ef_base.specs.Positions.{first_position, place_at}
 use Rattle.ef_base.specs.Cut.{Placed}
 use Rattle.ef_token.specs.Lexeme.{Lexeme, CutsInto, AreTokens}
-use Rattle.ef_token.specs.declared.token.TokenKind.{TokenKind}
 use Rattle.ef_token.specs.declared.token.TokenKind.TheVariants as kind
 use Rattle.ef_token.specs.declared.token.Token.{Token}
 use Rattle.ef_token.specs.declared.token.ScannedForm.{ScannedForm}

@@ -1,4 +1,4 @@
-use Rattle.std.proofs.Common.{subst, arith, rules, ◌∙◌, sym, take, ap}
+use Rattle.std.proofs.Common.{subst, arith, ◌∙◌, sym}
 use Rattle.ef_token.specs.Lexeme.{is_name_part}
 use Rattle.ef_scan.specs.Pieces.{IsRun}
 use Rattle.ef_scan.proofs.Found.{atom_found, atom_long, word_found, name_plain}

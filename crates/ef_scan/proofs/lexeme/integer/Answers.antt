@@ -1,4 +1,4 @@
-use Rattle.std.proofs.Common.{subst, take, ◌≡◌}
+use Rattle.std.proofs.Common.{subst, take}
 use Rattle.ef_token.specs.Lexeme.{is_digit, number_after}
 use Rattle.ef_scan.specs.Pieces.{IsRun, IsValue}
 use Rattle.ef_scan.proofs.Found.{integer_found, integer_large}

@@ -1,7 +1,7 @@
-use Rattle.std.proofs.Common.{subst, sym, ap, ◌∙◌, ◌≡◌, ℕ, List, [], ◌∷◌, refl}
+use Rattle.std.proofs.Common.{subst, ap, ◌∙◌, ◌≡◌, ℕ, List, [], ◌∷◌, refl}
 use Rattle.ef_scan.proofs.Found.{no_text}
 use Rattle.ef_scan.specs.Pieces.{IsNotBuilt}
-use Rattle.std.specs.Prelude.{chars, slice_get, Option, None, Some}
+use Rattle.std.specs.Prelude.{chars, slice_get, Option, None}
 use Rattle.ef_scan.proofs.lexeme.lexeme.Goals as goal
 
 empty : (text : List ℕ) → (let none : Option ℕ = None in none) ≡ slice_get text 0 → [] ≡ text

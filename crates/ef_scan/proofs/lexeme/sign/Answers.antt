@@ -2,7 +2,7 @@ use Rattle.std.proofs.Common.{subst, sym}
 use Rattle.std.specs.Prelude.{chars}
 use Rattle.ef_token.specs.Lexeme.{EndsForm}
 use Rattle.ef_scan.specs.Pieces.{Fits, IsLongestSymbol}
-use Rattle.ef_scan.proofs.Found.{symbol_found, full_stop_found, no_lexeme, symbol_plain, symbol_within}
+use Rattle.ef_scan.proofs.Found.{symbol_found, no_lexeme}
 use Rattle.ef_scan.proofs.lexeme.sign.Goals as goal
 
 pub returns-in_default-clause-none : goal.returns-in_default-clause-none

@@ -1,4 +1,4 @@
-use Rattle.std.proofs.Common.{subst, arith, rules, ◌∙◌, sym, take, ap}
+use Rattle.std.proofs.Common.{subst}
 use Rattle.ef_token.specs.Lexeme.{is_name_part}
 use Rattle.ef_scan.specs.Pieces.{IsRun}
 use Rattle.ef_scan.proofs.Found.{variable_found, variable_open, name_plain}

@@ -1,4 +1,4 @@
-use Rattle.std.proofs.Common.{arith, rules, take, get_or, ℕ, subst, sym}
+use Rattle.std.proofs.Common.{arith, rules, take, ℕ, subst, sym}
 use Rattle.ef_token.specs.Lexeme.{is_digit, number_after}
 use Rattle.ef_scan.specs.Pieces.{IsValue}
 use Rattle.ef_scan.proofs.Runs.{each_more, number_more}

@@ -1,4 +1,4 @@
-use Rattle.std.proofs.Common.{rules, arith, ◌+◌, refl}
+use Rattle.std.proofs.Common.{rules, refl}
 use Rattle.ef_scan.proofs.Cursors.{behind_width}
 use Rattle.ef_scan.proofs.cursor.Cursor.behind.Goals as goal
 

@@ -1,4 +1,4 @@
-use Rattle.std.proofs.Common.{ap, ◌∙◌, sym, refl, arith, rules, ◌+◌}
+use Rattle.std.proofs.Common.{arith, rules, ◌+◌}
 use Rattle.ef_scan.proofs.Cursors.{behind_one}
 use Rattle.ef_scan.proofs.cursor.Cursor.behind_white.Goals as goal
 

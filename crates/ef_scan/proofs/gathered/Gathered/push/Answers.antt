@@ -1,4 +1,4 @@
-use Rattle.std.proofs.Common.{rules, subst, sym, refl, ◌∙◌, ◌≡◌, Bool, true, false, ap}
+use Rattle.std.proofs.Common.{rules}
 use Rattle.ef_token.specs.declared.token.ScannedForm.TheVariants.{Tokens}
 use Rattle.ef_scan.proofs.Gathering.{gathers_more, gathers_form}
 use Rattle.ef_scan.proofs.gathered.Gathered.push.Goals as goal

@@ -2,3 +2,4 @@ pub mod Found
 pub mod Headline
 pub mod Told
 pub mod White
+pub mod Added

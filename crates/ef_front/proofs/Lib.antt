@@ -3,3 +3,4 @@ pub mod Headline
 pub mod Told
 pub mod White
 pub mod Added
+pub mod Sizes

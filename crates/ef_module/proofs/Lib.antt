@@ -1,3 +1,4 @@
 pub mod Limits
 pub mod ReadAttribute
 pub mod OfTables
+pub mod FormRead

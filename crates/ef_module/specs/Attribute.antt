@@ -159,9 +159,9 @@ abbrev pub run : Texts → List Token → Mode → List FunctionRef → Outcome
 run texts [] m rs = at_end m rs
 run texts (t ∷ ts) m rs = follow (move texts m rs (seen t.kind) t.place) (run texts ts)
 
--- the outcome that an answer stands for
-abbrev pub outcome_of : Option Form → Outcome
-outcome_of (Some (form.ModuleName n)) = named n
-outcome_of (Some (form.Export rs)) = listed rs.items
-outcome_of (Some (form.FunctionOf f)) = refused
-outcome_of None = refused
+-- the answer is this outcome
+abbrev pub IsAnswer : Option Form → Outcome → Type 0
+IsAnswer (Some (form.ModuleName n)) o = o ≡ named n
+IsAnswer (Some (form.Export rs)) o = o ≡ listed rs.items
+IsAnswer (Some (form.FunctionOf f)) o = ⊥
+IsAnswer None o = o ≡ refused

@@ -163,7 +163,7 @@ fn entered(
 /// The attribute that the tokens spell, if they spell one that is built.
 pub fn attribute(alloc: Global, names: &Names, tokens: &[Token]) -> Result<Option<Form>, NoMemory>
     requires { TokensOf names.now tokens.now }
-    ensures { IfOk result (λ form. m.outcome_of form ≡ m.run names.now tokens.now mode_is.Minus []) }
+    ensures { IfOk result (λ form. m.IsAnswer form (m.run names.now tokens.now mode_is.Minus [])) }
 {
     let mut entries = Vec::new(alloc);
     let mut mode = Mode::Minus;

@@ -3,4 +3,8 @@
 
 mod ahead;
 mod attribute;
+mod forms;
+mod function;
 mod narrow;
+
+pub use forms::{FormRefusal, form};

@@ -1,8 +1,11 @@
 -- What the answers for attributes and functions say of a form.
-use Rattle.std.proofs.Common.{◌≡◌, ℕ, ◌+◌, ◌≤◌, ◌<◌, Bool, true, false, List, [], ◌∷◌, ◌++◌, refl, sym, ap, ◌∙◌, subst, arith, append_assoc, Option, Some, None, codes, length, length-append, Vec, take, zero, suc}
+use Rattle.std.proofs.Common.{◌≡◌, ℕ, ◌+◌, ◌-◌, ◌≤◌, ◌<◌, Bool, true, false, List, [], ◌∷◌, ◌++◌, refl, sym, ap, ◌∙◌, subst, arith, append_assoc, Option, Some, None, codes, length, length-append, Vec, take, zero, suc, ⊎_elim}
 use Rattle.std.specs.declared.alloc.Global.{Global}
 use Rattle.ef_base.specs.declared.fault.Place.{Place}
+use Rattle.ef_base.specs.declared.fault.Fault.{Fault}
+use Rattle.ef_base.specs.declared.fault.Refusal.TheVariants.{Faulty}
 use Rattle.ef_base.specs.declared.name.Name.{Name}
+use Rattle.ef_parse.specs.Reads.{AreClausesRefused}
 use Rattle.ef_base.specs.Texts.{Texts, Extends, HasName, IsNameOf, text}
 use Rattle.std.specs.Str.{bytes_eq}
 use Rattle.std.specs.Prelude.{if◌then◌else◌}
@@ -66,14 +69,15 @@ same_move now all mode.Keyword rs (kind.Sym s) p later h = symbol_stops all s rs
 same_move now all mode.Keyword rs _ p later h = refl
 same_move now all _ rs k p later h = refl
 
+follow_same : (v : Move) (f g : Mode → List FunctionRef → Outcome) → ((m : Mode) (rs : List FunctionRef) → f m rs ≡ g m rs) → follow v f ≡ follow v g
+follow_same (Take m rs) f g h = h m rs
+follow_same Stop f g h = refl
+
 same_run : (now all : Texts) (ts : List Token) (m : Mode) (rs : List FunctionRef) → Extends now all → TokensOf now ts → run all ts m rs ≡ run now ts m rs
 same_run now all [] m rs later h = refl
 same_run now all (t ∷ ts) m rs later h =
-    ap (λ v. follow v (run all ts)) (same_move now all m rs t.kind t.place later h.0) ∙ go (move now m rs (seen t.kind) t.place)
-  where
-    go : (v : Move) → follow v (run all ts) ≡ follow v (run now ts)
-    go (Take m' rs') = same_run now all ts m' rs' later h.1
-    go Stop = refl
+    ap (λ v. follow v (run all ts)) (same_move now all m rs t.kind t.place later h.0)
+    ∙ follow_same (move now m rs (seen t.kind) t.place) (run all ts) (run now ts) (λ m' rs'. same_run now all ts m' rs' later h.1)
 
 -- ---- how a form begins
 
@@ -204,3 +208,16 @@ pub form_of : (all : Texts) (f : FormTree) (ts : List Token) → SpellsForm all 
 form_of all f ts (a_module_name m n p q r s t u w) h = h.1.1.1.0
 form_of all f ts (an_export m fs p q r s t u v us w l) h = list_of all fs us l (first all us _ h.1.1.1.1)
 form_of all f ts (a_function n cs d p us c w) h = (name_of all n cs d us c (first all us _ h), clauses_of all n cs d us c (first all us _ h))
+
+-- clauses that are refused are no function
+pub no_function : (ts : List Token) (f : Fault) → AreClausesRefused ts (Faulty f) → (n : Name) (cs : Clauses) → ReadsFunction n cs ts → ⊥
+no_function ts f r n cs x =
+    ⊎_elim (λ none. none.1 n cs x.nesting x.spelled)
+      (λ d. let same = one_clauses n d.1.0 cs d.1.1 x.nesting d.1.2 ts x.spelled d.1.4 in omega (arith, same.1, x.within, d.1.3)) r
+
+long : (ts : List Token) → IsForm ts → 0 < length ts
+long [] h = absurd h
+long (t ∷ ts) h = omega arith
+
+pub before_dot : (ts : List Token) → IsForm ts → (p : Place) × (ts ≡ take (length ts - 1) ts ++ token kind.Dot p ∷ [])
+before_dot ts h = form_is ts h (length ts - 1) (omega (arith, long ts h))

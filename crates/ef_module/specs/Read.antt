@@ -1,5 +1,5 @@
 -- What is answered for the tokens of a form and of a module.
-use Rattle.std.specs.Prelude.{ℕ, ◌≡◌, ◌≤◌, Bool, true, false, List, [], ◌∷◌, ◌++◌, Option, Some, None, Vec, map}
+use Rattle.std.specs.Prelude.{ℕ, ◌≡◌, ◌≤◌, Bool, true, false, ◌&&◌, if◌then◌else◌, List, [], ◌∷◌, ◌++◌, Option, Some, None, Vec, map}
 use Rattle.std.specs.declared.alloc.Global.{Global}
 use Rattle.ef_base.specs.declared.fault.Fault.{Fault}
 use Rattle.ef_base.specs.declared.name.Name.{Name}
@@ -10,7 +10,7 @@ use Rattle.ef_token.specs.declared.token.TokenKind.TheVariants as kind
 use Rattle.ef_forms.specs.declared.form.Form.{Form}
 use Rattle.ef_forms.specs.declared.form.PlacedForm.{PlacedForm}
 use Rattle.ef_forms.specs.declared.form.Module.{Module}
-use Rattle.ef_forms.specs.Tree.{Clauses, FunctionTree, FormTree, PlacedTree, ModuleTree, function}
+use Rattle.ef_forms.specs.Tree.{Clauses, FunctionTree, FormTree, PlacedTree, ModuleTree, module_name, export, function}
 use Rattle.ef_forms.specs.Plain.{plain_form, plain_placed, plain_module}
 use Rattle.ef_forms.specs.Built.{AreNarrowClauses}
 use Rattle.ef_parse.specs.Grammar.{token, start_of, SpellsClauses}
@@ -19,7 +19,7 @@ use Rattle.ef_module.specs.declared.ahead.Ahead.TheVariants as ahead
 use Rattle.ef_module.specs.declared.forms.FormRefusal.{FormRefusal}
 use Rattle.ef_module.specs.declared.forms.FormRefusal.TheVariants.{Faulty, NoMemory}
 use Rattle.ef_module.specs.Attribute.{seen}
-use Rattle.ef_module.specs.Forms.{SpellsForm, SpellsForms, SpellsModule, IsNarrowForm, arity_of, most_nesting, IsInOrder}
+use Rattle.ef_module.specs.Forms.{SpellsForm, SpellsForms, SpellsModule, IsNarrowForm, arity_of, most_nesting}
 
 -- what is not built, at the start of the file
 abbrev pub not_built : Fault
@@ -111,10 +111,32 @@ abbrev pub IsReadModule : Texts → List (List Token) → Option Module → Type
 IsReadModule now forms (Some m) = ReadsModule now (plain_module m) forms
 IsReadModule now forms None = IsNoModule now forms
 
+-- ---- the order of forms, as tests
+
+abbrev pub module_named : FormTree → Option Name
+module_named (module_name n) = Some n
+module_named (export refs) = None
+module_named (function f) = None
+
+abbrev pub is_export : FormTree → Bool
+is_export (module_name n) = false
+is_export (export refs) = true
+is_export (function f) = false
+
+abbrev pub is_function : FormTree → Bool
+is_function (module_name n) = false
+is_function (export refs) = false
+is_function (function f) = true
+
+abbrev pub are_functions : List PlacedTree → Bool
+are_functions [] = true
+are_functions (f ∷ fs) = is_function f.form && are_functions fs
+
 -- the name of a module whose forms are in order
-abbrev pub IsNamed : List PlacedTree → Option Name → Type 0
-IsNamed fs (Some n) = IsInOrder n fs
-IsNamed fs None = (n : Name) → IsInOrder n fs → ⊥
+abbrev pub name_in : List PlacedTree → Option Name
+name_in [] = None
+name_in (f ∷ []) = None
+name_in (f ∷ g ∷ fs) = if is_export g.form && are_functions fs then module_named f.form else None
 
 -- the one fault, or want of memory
 abbrev pub IsNotBuilt : FormRefusal → Type 0

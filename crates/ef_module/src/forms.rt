@@ -45,7 +45,8 @@ pub fn read_form(alloc: Global, names: &Names, tokens: &[Token]) -> Result<Optio
     if is_attribute(tokens) {
         attribute(alloc, names, tokens)
     } else {
-        function(alloc, names, &tokens[..tokens.len() - 1])
+        let before = &tokens[..tokens.len() - 1];
+        function(alloc, names, before)
     }
 }
 

@@ -5,6 +5,8 @@ mod ahead;
 mod attribute;
 mod forms;
 mod function;
+mod modules;
 mod narrow;
 
 pub use forms::{FormRefusal, form};
+pub use modules::module;

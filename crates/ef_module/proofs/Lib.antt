@@ -2,3 +2,4 @@ pub mod Limits
 pub mod ReadAttribute
 pub mod OfTables
 pub mod FormRead
+pub mod ModuleRead

@@ -20,8 +20,8 @@ pub fn module(alloc: Global, names: &mut Names, forms: &[Vec<Token>]) -> Result<
     requires ends { AreForms (lists forms.now) }
     requires named { AllTokensOf names.old (lists forms.now) }
     ensures kept { names.new ≡ names.old }
-    ensures read { IfOk result (λ module. ReadsModule names.new (plain_module module) (lists forms.now)) }
-    ensures of_table { IfOk result (λ module. ModuleOf names.new (plain_module module)) }
+    ensures read { IfOk result (λ made. ReadsModule names.new (plain_module made) (lists forms.now)) }
+    ensures of_table { IfOk result (λ made. ModuleOf names.new (plain_module made)) }
     ensures refused { IfErr result (λ refusal. IsModuleRefused names.new (lists forms.now) refusal) }
 {
     match read_module(alloc, names, forms) {

@@ -4,4 +4,5 @@ pub mod Source
 pub mod Input
 pub mod Lines
 pub mod Runs
+pub mod Compiles
 pub mod Headline

@@ -1,6 +1,5 @@
 -- Trees all of whose names have a property, which they take from the tokens that spell them.
-use Rattle.std.proofs.Common.{◌≡◌, ℕ, List, [], ◌∷◌, ◌++◌, map, subst, sym}
-use Rattle.std.specs.List.{flat_map}
+use Rattle.std.proofs.Common.{ℕ, List, [], ◌∷◌, ◌++◌, map, subst, sym}
 use Rattle.ef_base.specs.declared.name.Name.{Name}
 use Rattle.ef_token.specs.declared.token.TokenKind.{TokenKind}
 use Rattle.ef_token.specs.declared.token.TokenKind.TheVariants as kind
@@ -8,7 +7,7 @@ use Rattle.ef_token.specs.declared.token.Token.{Token}
 use Rattle.ef_scan.specs.Scan.{joined}
 use Rattle.ef_forms.specs.declared.form.FunctionRef.{FunctionRef}
 use Rattle.ef_forms.specs.declared.tables.FunctionName.{FunctionName}
-use Rattle.ef_forms.specs.Tree.{Tree, Shape, Trees, Guards, Clauses, FunctionTree, FormTree, PlacedTree, tree, int, atom, var, call, remote, end, more, no_guard, or_guard, no_clauses, clause, module_name, export, function}
+use Rattle.ef_forms.specs.Tree.{Tree, Shape, Trees, Clauses, FunctionTree, FormTree, PlacedTree, tree, int, atom, var, call, remote, end, more, no_clauses, clause, module_name, export, function}
 use Rattle.ef_forms.specs.Built.{Each, AreVariables, name_of, key_of, functions_of, functions_in, exports_of, exports_in, defined_in}
 use Rattle.ef_parse.specs.Grammar.{Spells, SpellsAll, SpellsSome, SpellsClauses, max_level, a_variable, an_atom, an_integer, parentheses, a_call, a_remote, nothing, some, one, and_more, one_clause}
 use Rattle.ef_base.specs.Texts.{Texts}

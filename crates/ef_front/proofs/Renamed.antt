@@ -1,17 +1,17 @@
 -- Which numbers a table gives to names does not matter to what a text spells.
-use Rattle.std.proofs.Common.{◌≡◌, ◌≤◌, ◌⊎◌, ℕ, zero, suc, Bool, true, false, if◌then◌else◌, Some, List, [], ◌∷◌, ◌++◌, length, slice_get, bytes_eq, encode_utf8_all, chars, refl, sym, ap, ap₂, ◌∙◌, subst, subst₂, map, codes}
-use Rattle.std.proofs.lemmas.List.{map-append, length-map}
+use Rattle.std.proofs.Common.{◌≡◌, ◌≤◌, ℕ, zero, suc, Bool, true, false, if◌then◌else◌, Some, List, [], ◌∷◌, ◌++◌, length, slice_get, bytes_eq, encode_utf8_all, refl, sym, ap, ap₂, ◌∙◌, subst, subst₂, map, codes}
+use Rattle.std.proofs.lemmas.List.{length-map}
 use Rattle.std.proofs.lemmas.Option.{slice_get-get_or}
 use Rattle.std.proofs.lemmas.Slice.Eq.{bytes_eq-Decides}
 use Rattle.ef_base.specs.declared.fault.Place.{Place}
 use Rattle.ef_base.specs.declared.name.Name.{Name}
 use Rattle.ef_base.specs.Cut.{Placed}
-use Rattle.ef_base.specs.Texts.{Texts, AllDiffer, HasName, IsNameOf, text}
+use Rattle.ef_base.specs.Texts.{Texts, AllDiffer, IsNameOf, text}
 use Rattle.ef_base.specs.Laws.{same_name, named, extends_same}
 use Rattle.ef_token.specs.declared.token.TokenKind.{TokenKind}
 use Rattle.ef_token.specs.declared.token.TokenKind.TheVariants as kind
 use Rattle.ef_token.specs.declared.token.Token.{Token}
-use Rattle.ef_token.specs.declared.word.Sym.TheVariants as sym
+use Rattle.ef_token.specs.declared.word.Sym.TheVariants as sy
 use Rattle.ef_token.specs.Lexeme.{Lexeme, IsKind, AreTokens, atom, variable, integer, word, symbol, full_stop}
 use Rattle.ef_scan.specs.Scan.{IsForm, AreForms, joined, ScansTo}
 use Rattle.ef_scan.proofs.Scanning.{one_way}
@@ -23,6 +23,9 @@ use Rattle.ef_module.specs.Forms.{SpellsForm, SpellsForms, SpellsModule, IsInOrd
 use Rattle.ef_front.proofs.Renaming.{renamed_kind, renamed_token, renamed_clauses, renamed_reference, renamed_function, renamed_form, renamed_placed, renamed_module, same_start, same_arity, apart, narrow_form, spells_clauses, spells_reference_list}
 use Rattle.ef_front.proofs.OfNames.{KindOf, TokensOf, FormsOf, first, second, forms_of}
 use Rattle.ef_front.proofs.RenamedBuilt.{Keeps, functions_renamed, built_module}
+use Rattle.ef_front.proofs.RenamedFaults.{faults_renamed}
+use Rattle.ef_front.proofs.OneModule.{one_module}
+use Rattle.ef_front.specs.Source.{module_faults}
 
 -- ---- the name of a text
 
@@ -129,14 +132,14 @@ module _ (a b : Texts) (r : Name → Name) where
   spells_form f ts (a_module_name m n p q s t u v is) h = a_module_name (r m) (r n) p q s t u v (is_name m (codes "module") h.1.0 is)
   spells_form f ts (an_export m fs p q s t u v w ts' is ss) h =
       subst (λ l. SpellsForm a (export (map (renamed_reference r) fs))
-              (g.symbol sym.Minus p ∷ token (kind.Atom (r m)) q ∷ g.symbol sym.LeftParen s ∷ g.symbol sym.LeftBracket t ∷ l))
-      (sym (apart r ts' (g.symbol sym.RightBracket u ∷ g.symbol sym.RightParen v ∷ token kind.Dot w ∷ [])))
+      (g.symbol sy.Minus p ∷ token (kind.Atom (r m)) q ∷ g.symbol sy.LeftParen s ∷ g.symbol sy.LeftBracket t ∷ l))
+      (sym (apart r ts' (g.symbol sy.RightBracket u ∷ g.symbol sy.RightParen v ∷ token kind.Dot w ∷ [])))
       (an_export (r m) (map (renamed_reference r) fs) p q s t u v w (map (renamed_token r) ts') (is_name m (codes "export") h.1.0 is) (spells_reference_list r fs ts' ss))
   spells_form f ts (a_function n cs d p ts' s small) h =
       subst (λ l. SpellsForm a (function (record { place = start_of ts'; name = r n; arity = arity_of cs; clauses = renamed_clauses r cs })) l)
       (sym (apart r ts' (token kind.Dot p ∷ [])))
       (subst₂ (λ (start : Place) (arity : ℕ). SpellsForm a (function (record { place = start; name = r n; arity = arity; clauses = renamed_clauses r cs })) (map (renamed_token r) ts' ++ token kind.Dot p ∷ []))
-          (same_start r ts') (same_arity r cs) (a_function (r n) (renamed_clauses r cs) d p (map (renamed_token r) ts') (spells_clauses r n cs d ts' s) small))
+      (same_start r ts') (same_arity r cs) (a_function (r n) (renamed_clauses r cs) d p (map (renamed_token r) ts') (spells_clauses r n cs d ts' s) small))
 
   spells_forms : (fs : List PlacedTree) (tss : List (List Token)) → SpellsForms b fs tss → TokensOf (Keeps a b r) (joined tss)
       → SpellsForms a (map (renamed_placed r) fs) (map (map (renamed_token r)) tss)
@@ -160,10 +163,11 @@ module _ (a b : Texts) (differ : AllDiffer a) where
   names_alike : (m n : Name) (bytes : List ℕ) → IsNameOf a m bytes → IsNameOf b n bytes → (m ≡ renaming a b n) × Keeps a b (renaming a b) n
   names_alike m n bytes one two =
       let at : slice_get a (number_of a (text b n)) ≡ Some (text b n) =
-          found a (text b n) m.index (slice_get-get_or a m.index [] one.within ∙ ap Some (one.is ∙ sym two.is)) in
-      let new : IsNameOf a (renaming a b n) (text b n) = named a a (renaming a b n) (text b n) at (extends_same a) in
-      (same_name a m (renaming a b n) bytes differ one (record { within = new.within; is = new.is ∙ two.is }),
-          record { old = two.within; new = new.within; same = new.is })
+      found a (text b n) m.index (slice_get-get_or a m.index [] one.within ∙ ap Some (one.is ∙ sym two.is)) in
+      let new : IsNameOf a (renaming a b n) (text b n) = named a a (renaming a b n) (text b n) at (extends_same a) in (
+        same_name a m (renaming a b n) bytes differ one (record { within = new.within; is = new.is ∙ two.is }),
+        record { old = two.within; new = new.within; same = new.is },
+      )
 
   kinds_alike : (l : Lexeme) (x y : TokenKind) → IsKind a l x → IsKind b l y → (x ≡ renamed_kind (renaming a b) y) × KindOf (Keeps a b (renaming a b)) y
   kinds_alike (atom cs) (kind.Atom m) (kind.Atom n) h k =
@@ -213,18 +217,35 @@ pub forms_alike : (a b : Texts) (file : ℕ) (source : List ℕ) (forms_a forms_
 forms_alike a b file source forms_a forms_b differ one two =
     let cut : two.lexemes ≡ one.lexemes = one_way source two.lexemes one.lexemes two.cut one.cut in
     let alike = tokens_alike a b differ file one.lexemes (joined forms_a) (joined forms_b) one.tokens
-        (subst (λ ls. AreTokens b file ls (joined forms_b)) cut two.tokens) in
+    (subst (λ ls. AreTokens b file ls (joined forms_b)) cut two.tokens) in
     record {
       renamed = one_split (map (map (renamed_token (renaming a b))) forms_b) forms_a (forms_renamed (renaming a b) forms_b two.ends) one.ends
           (joined_renamed (renaming a b) forms_b ∙ sym alike.0);
       keep = alike.1;
     }
 
--- a module of the text under one table is, renamed, one under the other
+-- the module of a text under one table is, renamed, one under the other, with the same faults
+pub other_module : (a b : Texts) (source : List ℕ) (forms_a forms_b : List (List Token)) (m : ModuleTree) → AllDiffer a → AllDiffer b → ScansTo a 0 source forms_a → ScansTo b 0 source forms_b
+    → SpellsModule b m forms_b → IsBuilt b m → (n : ModuleTree) × SpellsModule a n forms_a × IsBuilt a n × (module_faults a n ≡ module_faults b m)
+other_module a b source forms_a forms_b m differ_a differ_b one two spelled built =
+    let r : Name → Name = renaming a b in
+    let alike = forms_alike a b 0 source forms_a forms_b differ_a one two in
+    let keep : FormsOf (Keeps a b r) m.forms = forms_of (Keeps a b r) b m.forms forms_b spelled.spelled alike.keep in (
+      renamed_module r m,
+      subst (SpellsModule a (renamed_module r m)) alike.renamed (spells_module a b r m forms_b spelled alike.keep),
+      built_module a b r differ_b m keep built,
+      faults_renamed a b r differ_b m.forms keep,
+    )
+
 pub other_table : (a b : Texts) (source : List ℕ) (forms_a forms_b : List (List Token)) (m : ModuleTree) → AllDiffer a → AllDiffer b → ScansTo a 0 source forms_a → ScansTo b 0 source forms_b
     → SpellsModule b m forms_b → IsBuilt b m → (n : ModuleTree) × SpellsModule a n forms_a × IsBuilt a n
 other_table a b source forms_a forms_b m differ_a differ_b one two spelled built =
-    let alike = forms_alike a b 0 source forms_a forms_b differ_a one two in
-    (renamed_module (renaming a b) m,
-        subst (SpellsModule a (renamed_module (renaming a b) m)) alike.renamed (spells_module a b (renaming a b) m forms_b spelled alike.keep),
-        built_module a b (renaming a b) differ_b m (forms_of (Keeps a b (renaming a b)) b m.forms forms_b spelled.spelled alike.keep) built)
+    let other = other_module a b source forms_a forms_b m differ_a differ_b one two spelled built in
+    (other.0, other.1, other.2)
+
+-- the faults are those of the one module under the other table
+pub other_faults : (a b : Texts) (source : List ℕ) (forms_a forms_b : List (List Token)) (n m : ModuleTree) → AllDiffer a → AllDiffer b → ScansTo a 0 source forms_a → ScansTo b 0 source forms_b
+    → SpellsModule a n forms_a → SpellsModule b m forms_b → IsBuilt b m → module_faults a n ≡ module_faults b m
+other_faults a b source forms_a forms_b n m differ_a differ_b one two spelled_a spelled_b built =
+    let other = other_module a b source forms_a forms_b m differ_a differ_b one two spelled_b built in
+    ap (module_faults a) (one_module a n other.0 forms_a spelled_a other.1) ∙ other.3

@@ -1,9 +1,8 @@
 -- A module that is built is built under other names of the same texts.
-use Rattle.std.proofs.Common.{◌≡◌, ◌≢◌, ◌⊎◌, inl, inr, ℕ, List, [], ◌∷◌, ◌++◌, refl, sym, ap, ap₂, ◌∙◌, subst, subst₂, map}
-use Rattle.std.specs.Prelude.{codes}
+use Rattle.std.proofs.Common.{◌≡◌, inl, inr, ℕ, List, [], ◌∷◌, ◌++◌, refl, sym, ap, ap₂, ◌∙◌, subst, subst₂, map}
 use Rattle.std.proofs.lemmas.List.{map-append}
 use Rattle.ef_base.specs.declared.name.Name.{Name}
-use Rattle.ef_base.specs.Texts.{Texts, AllDiffer, HasName, IsNameOf, text}
+use Rattle.ef_base.specs.Texts.{Texts, AllDiffer, HasName, text}
 use Rattle.ef_base.specs.Laws.{same_name}
 use Rattle.ef_forms.specs.declared.form.FunctionRef.{FunctionRef}
 use Rattle.ef_forms.specs.declared.tables.FunctionName.{FunctionName}
@@ -19,8 +18,8 @@ among_map f x [] h = absurd h
 among_map f x (y ∷ ys) (inl e) = inl (ap f e)
 among_map f x (y ∷ ys) (inr h) = inr (among_map f x ys h)
 
--- on what has the property the function joins nothing
-abbrev Injective : {A B : Type 0} → (A → B) → (A → Type 0) → Type 0
+-- of what has the property, the function takes no two to one
+abbrev pub Injective : {A B : Type 0} → (A → B) → (A → Type 0) → Type 0
 Injective {A} f P = (x y : A) → P x → P y → f x ≡ f y → x ≡ y
 
 among_back : {A B : Type 0} (f : A → B) (P : A → Type 0) (x : A) (xs : List A) → Injective f P → P x → Each P xs → IsAmong (f x) (map f xs) → IsAmong x xs
@@ -78,15 +77,14 @@ module _ (r : Name → Name) where
 
 -- ---- tables
 
--- the first number of the text
--- the name of the second table has the same text as the new one of the first
+-- the name of the second table has the same text as its new name in the first
 pub record Keeps (a b : Texts) (r : Name → Name) (n : Name) : Type 0 where
   pub old : HasName b n
   pub new : HasName a (r n)
   pub same : text a (r n) ≡ text b n
 
 module _ (a b : Texts) (r : Name → Name) (differ : AllDiffer b) where
-  injective : Injective r (Keeps a b r)
+  pub injective : Injective r (Keeps a b r)
   injective n m k l e =
       same_name b n m (text b n) differ (record { within = k.old; is = refl }) (record { within = l.old; is = sym l.same ∙ ap (text a) (sym e) ∙ k.same })
 
@@ -151,10 +149,14 @@ module _ (a b : Texts) (r : Name → Name) (differ : AllDiffer b) where
     built_clauses no_clauses k h = absurd h
     built_clauses (clause p ps (or_guard es gs) body cs) k h = absurd h
     built_clauses (clause p ps no_guard body (clause q qs g other cs)) k h = absurd h
-    built_clauses (clause p ps no_guard body no_clauses) k h =
-        ((map r h.0.0, variables_renamed r ps h.0.0 h.0.1,
-            distinct_map r (Keeps a b r) h.0.0 injective (variables (Keeps a b r) ps h.0.0 h.0.1 k.0) h.0.2),
-        built_all body k.1 h.1)
+    built_clauses (clause p ps no_guard body no_clauses) k h = (
+      (
+        map r h.0.0,
+        variables_renamed r ps h.0.0 h.0.1,
+        distinct_map r (Keeps a b r) h.0.0 injective (variables (Keeps a b r) ps h.0.0 h.0.1 k.0) h.0.2,
+      ),
+      built_all body k.1 h.1,
+    )
 
     built_functions : (fs : List FunctionTree) → Each (FunctionOf (Keeps a b r)) fs → Each (IsBuiltFunction b defined) fs → Each (IsBuiltFunction a (map (renamed_key r) defined)) (map (renamed_function r) fs)
     built_functions [] k h = tt

@@ -5,7 +5,7 @@ use Rattle.ef_base.specs.declared.name.Name.{Name}
 use Rattle.ef_token.specs.declared.token.TokenKind.{TokenKind}
 use Rattle.ef_token.specs.declared.token.TokenKind.TheVariants as kind
 use Rattle.ef_token.specs.declared.token.Token.{Token}
-use Rattle.ef_token.specs.declared.word.Sym.TheVariants as sym
+use Rattle.ef_token.specs.declared.word.Sym.TheVariants as sy
 use Rattle.ef_forms.specs.declared.form.FunctionRef.{FunctionRef}
 use Rattle.ef_forms.specs.declared.tables.FunctionName.{FunctionName}
 use Rattle.ef_forms.specs.Tree.{Tree, Shape, Trees, Guards, Clauses, FunctionTree, FormTree, PlacedTree, ModuleTree, tree, int, atom, var, call, remote, end, more, no_guard, or_guard, no_clauses, clause, module_name, export, function, count}
@@ -128,20 +128,20 @@ module _ (r : Name → Name) where
     spells e k d ts (an_atom n p) = an_atom (r n) p
     spells e k d ts (an_integer i p) = an_integer i p
     spells e k d ts (parentheses e' k' d' p q es s) =
-        subst (λ l. Spells (renamed e') max_level (suc d') (symbol sym.LeftParen p ∷ l)) (sym (apart es (symbol sym.RightParen q ∷ [])))
+        subst (λ l. Spells (renamed e') max_level (suc d') (symbol sy.LeftParen p ∷ l)) (sym (apart es (symbol sy.RightParen q ∷ [])))
         (parentheses (renamed e') k' d' p q (map renamed_token es) (spells e' k' d' es s))
     spells e k d ts (a_call f args d' g p q fs xs s ss) =
         subst₂ (λ start l. Spells (tree start (call (renamed f) (renamed_all args))) call_level (suc (max d' g)) l) (same_start fs)
-        (sym (apart fs (symbol sym.LeftParen p ∷ (xs ++ symbol sym.RightParen q ∷ []))
-            ∙ ap (λ l. map renamed_token fs ++ symbol sym.LeftParen p ∷ l) (apart xs (symbol sym.RightParen q ∷ []))))
+        (sym (apart fs (symbol sy.LeftParen p ∷ (xs ++ symbol sy.RightParen q ∷ []))
+        ∙ ap (λ l. map renamed_token fs ++ symbol sy.LeftParen p ∷ l) (apart xs (symbol sy.RightParen q ∷ []))))
         (a_call (renamed f) (renamed_all args) d' g p q (map renamed_token fs) (map renamed_token xs) (spells f max_level d' fs s) (spells_all args g xs ss))
     spells e k d ts (a_remote m f args c d' g p q t ms fs xs s s' ss) =
         subst₂ (λ start l. Spells (tree start (remote (renamed m) (renamed f) (renamed_all args))) call_level (suc (max c (max d' g))) l) (same_start ms)
-        (sym (apart ms (symbol sym.Colon p ∷ (fs ++ symbol sym.LeftParen q ∷ (xs ++ symbol sym.RightParen t ∷ [])))
-            ∙ ap (λ l. map renamed_token ms ++ symbol sym.Colon p ∷ l) (apart fs (symbol sym.LeftParen q ∷ (xs ++ symbol sym.RightParen t ∷ []))
-                ∙ ap (λ l. map renamed_token fs ++ symbol sym.LeftParen q ∷ l) (apart xs (symbol sym.RightParen t ∷ [])))))
+        (sym (apart ms (symbol sy.Colon p ∷ (fs ++ symbol sy.LeftParen q ∷ (xs ++ symbol sy.RightParen t ∷ [])))
+        ∙ ap (λ l. map renamed_token ms ++ symbol sy.Colon p ∷ l) (apart fs (symbol sy.LeftParen q ∷ (xs ++ symbol sy.RightParen t ∷ []))
+        ∙ ap (λ l. map renamed_token fs ++ symbol sy.LeftParen q ∷ l) (apart xs (symbol sy.RightParen t ∷ [])))))
         (a_remote (renamed m) (renamed f) (renamed_all args) c d' g p q t (map renamed_token ms) (map renamed_token fs) (map renamed_token xs)
-            (spells m max_level c ms s) (spells f max_level d' fs s') (spells_all args g xs ss))
+        (spells m max_level c ms s) (spells f max_level d' fs s') (spells_all args g xs ss))
 
     spells_all : (es : Trees) (d : ℕ) (ts : List Token) → SpellsAll es d ts → SpellsAll (renamed_all es) d (map renamed_token ts)
     spells_all es d ts nothing = nothing
@@ -150,13 +150,13 @@ module _ (r : Name → Name) where
     spells_some : (es : Trees) (d : ℕ) (ts : List Token) → SpellsSome es d ts → SpellsSome (renamed_all es) d (map renamed_token ts)
     spells_some es d ts (one e k d' ts' s) = one (renamed e) k d' (map renamed_token ts') (spells e k d' ts' s)
     spells_some es d ts (and_more e es' k d' g p ts' us s ss) =
-        subst (λ l. SpellsSome (more (renamed e) (renamed_all es')) (max d' g) l) (sym (apart ts' (symbol sym.Comma p ∷ us)))
+        subst (λ l. SpellsSome (more (renamed e) (renamed_all es')) (max d' g) l) (sym (apart ts' (symbol sy.Comma p ∷ us)))
         (and_more (renamed e) (renamed_all es') k d' g p (map renamed_token ts') (map renamed_token us) (spells e k d' ts' s) (spells_some es' g us ss))
 
   pub spells_clauses : (n : Name) (cs : Clauses) (d : ℕ) (ts : List Token) → SpellsClauses n cs d ts → SpellsClauses (r n) (renamed_clauses cs) d (map renamed_token ts)
   spells_clauses n cs d ts (one_clause n' ps es c g p q u s xs ys ss ss') =
-      subst (λ l. SpellsClauses (r n') (clause p (renamed_all ps) no_guard (renamed_all es) no_clauses) (max c g) (token (kind.Atom (r n')) p ∷ symbol sym.LeftParen q ∷ l))
-      (sym (apart xs (symbol sym.RightParen u ∷ symbol sym.Arrow s ∷ ys)))
+      subst (λ l. SpellsClauses (r n') (clause p (renamed_all ps) no_guard (renamed_all es) no_clauses) (max c g) (token (kind.Atom (r n')) p ∷ symbol sy.LeftParen q ∷ l))
+      (sym (apart xs (symbol sy.RightParen u ∷ symbol sy.Arrow s ∷ ys)))
       (one_clause (r n') (renamed_all ps) (renamed_all es) c g p q u s (map renamed_token xs) (map renamed_token ys) (spells_all ps c xs ss) (spells_some es g ys ss'))
 
   spells_reference : (f : FunctionRef) (ts : List Token) → SpellsReference f ts → SpellsReference (renamed_reference f) (map renamed_token ts)
@@ -165,7 +165,7 @@ module _ (r : Name → Name) where
   spells_references : (fs : List FunctionRef) (ts : List Token) → SpellsReferences fs ts → SpellsReferences (map renamed_reference fs) (map renamed_token ts)
   spells_references fs ts (forms.one f ts' s) = forms.one (renamed_reference f) (map renamed_token ts') (spells_reference f ts' s)
   spells_references fs ts (forms.and_more f fs' p ts' us s ss) =
-      subst (λ l. SpellsReferences (renamed_reference f ∷ map renamed_reference fs') l) (sym (apart ts' (symbol sym.Comma p ∷ us)))
+      subst (λ l. SpellsReferences (renamed_reference f ∷ map renamed_reference fs') l) (sym (apart ts' (symbol sy.Comma p ∷ us)))
       (forms.and_more (renamed_reference f) (map renamed_reference fs') p (map renamed_token ts') (map renamed_token us) (spells_reference f ts' s) (spells_references fs' us ss))
 
   pub spells_reference_list : (fs : List FunctionRef) (ts : List Token) → SpellsReferenceList fs ts → SpellsReferenceList (map renamed_reference fs) (map renamed_token ts)

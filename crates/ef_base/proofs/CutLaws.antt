@@ -3,12 +3,7 @@ use Rattle.std.specs.Prelude.{ℕ, Bool, true, false, List, [], ◌∷◌, ◌++
 use Rattle.std.proofs.Common.{ap, ◌∙◌, sym, subst, inl, inr, append_assoc, append-nil}
 use Rattle.ef_base.specs.Positions.{Position, next_position, position_after}
 use Rattle.ef_base.specs.Cut.{Placed, LastGap, Longest, Cuts}
-use Rattle.ef_base.specs.Taken.{Took}
-
--- the text has a first character, and it is such
-abbrev pub Begins : (ℕ → Bool) → Bool → List ℕ → Type 0
-Begins test value [] = ⊥
-Begins test value (c ∷ cs) = test c ≡ value
+use Rattle.ef_base.specs.Taken.{Begins, Took}
 
 -- why a text has one cut: gaps may be joined, what is behind a gap in a gap is one, no lexeme begins as a gap does,
 -- and a front with its rest spells one lexeme

@@ -1,7 +1,12 @@
--- Lexemes that were taken off the front of a text.
-use Rattle.std.specs.Prelude.{ℕ, List, [], ◌∷◌, ◌++◌, ◌≡◌}
+-- What a text begins with, and lexemes that were taken off its front.
+use Rattle.std.specs.Prelude.{ℕ, Bool, List, [], ◌∷◌, ◌++◌, ◌≡◌}
 use Rattle.ef_base.specs.Positions.{Position, position_after}
 use Rattle.ef_base.specs.Cut.{Placed, Longest}
+
+-- the text has a first character, of which the test has this value
+abbrev pub Begins : (ℕ → Bool) → Bool → List ℕ → Type 0
+Begins test value [] = ⊥
+Begins test value (c ∷ cs) = test c ≡ value
 
 -- the text, which begins at the first position, is these lexemes with gaps between, a gap, and this rest at the second
 abbrev pub Took : {L : Type 0} → (List ℕ → Type 0) → (L → List ℕ → List ℕ → Type 0) → Position → List ℕ → List (Placed L) → Position → List ℕ → Type 0

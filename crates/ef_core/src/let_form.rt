@@ -5,9 +5,9 @@ ghost use Rattle.ef_core.specs.Plain.{plain, plain_all, plain_steps};
 
 use crate::{CoreExpr, LetStep};
 
-// A variable or a literal.
+/// Whether it is a variable or a literal.
 #[tactic(auto, using(crate::specs::Laws::plain_laws))]
-fn is_simple(expr: &CoreExpr) -> bool
+pub fn is_simple(expr: &CoreExpr) -> bool
     ensures { IsTrue result ↔ IsSimple (plain expr.now) }
 {
     matches!(expr, CoreExpr::Var(_) | CoreExpr::Lit(_))

@@ -3,3 +3,4 @@ pub mod Plain
 pub mod Built
 pub mod OfTable
 pub mod Ways
+pub mod Weight

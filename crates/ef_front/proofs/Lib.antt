@@ -9,3 +9,5 @@ pub mod RenamedFaults
 pub mod Renaming
 pub mod Told
 pub mod White
+pub mod Added
+pub mod Sizes

@@ -8,8 +8,8 @@ use Rattle.ef_base.specs.Texts.{Texts, AllDiffer}
 use Rattle.ef_token.specs.declared.token.Token.{Token}
 use Rattle.ef_token.specs.Lexeme.{Each, is_white}
 use Rattle.ef_scan.specs.Scan.{ScansTo}
-use Rattle.ef_forms.specs.Tree.{ModuleTree}
-use Rattle.ef_forms.specs.Built.{IsBuilt, functions_in}
+use Rattle.ef_forms.specs.Tree.{FormTree, PlacedTree, ModuleTree, module_name, export, function}
+use Rattle.ef_forms.specs.Built.{IsBuilt}
 use Rattle.ef_forms.specs.Ways.{function_faults}
 use Rattle.ef_module.specs.Forms.{SpellsModule}
 use Rattle.ef_front.specs.Written.{IsWritten}
@@ -31,9 +31,17 @@ pub record IsBlank (source : List ℕ) : Type 0 where
 abbrev pub at_start : ℕ → List ℕ → Fault
 at_start code words = record { place = place_at 0 first_position; code = code; words = words }
 
--- the faults of the functions
+-- the faults of a module: those of its functions
+abbrev pub form_faults : Texts → FormTree → List Fault
+form_faults all (module_name n) = []
+form_faults all (export refs) = []
+form_faults all (function f) = function_faults all f
+
+abbrev pub forms_faults : Texts → List PlacedTree → List Fault
+forms_faults all fs = flat_map (λ (f : PlacedTree). form_faults all f.form) fs
+
 abbrev pub module_faults : Texts → ModuleTree → List Fault
-module_faults all m = flat_map (function_faults all) (functions_in m.forms)
+module_faults all m = forms_faults all m.forms
 
 -- the faults of a source, sorted: those of its module; of white space alone, that the module attribute lacks; of
 -- anything else, that it is not built

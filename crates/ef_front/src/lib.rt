@@ -3,6 +3,7 @@
 
 mod blank;
 mod compiling;
+mod faults;
 mod job;
 mod listing;
 mod refused;

@@ -1,0 +1,5 @@
+pub mod Limits
+pub mod ReadAttribute
+pub mod OfTables
+pub mod FormRead
+pub mod ModuleRead

@@ -67,21 +67,21 @@ SpellsForms all [] [] = Unit {0}
 SpellsForms all (f ∷ fs) (ts ∷ tss) = (f.place ≡ start_of ts) × SpellsForm all f.form ts × IsNarrowForm f.form × SpellsForms all fs tss
 SpellsForms all _ _ = ⊥
 
+abbrev pub IsExport : FormTree → Type 0
+IsExport (export refs) = Unit {0}
+IsExport _ = ⊥
+
+abbrev pub IsFunction : FormTree → Type 0
+IsFunction (function g) = Unit {0}
+IsFunction _ = ⊥
+
 abbrev pub AreFunctions : List PlacedTree → Type 0
 AreFunctions [] = Unit {0}
 AreFunctions (f ∷ fs) = IsFunction f.form × AreFunctions fs
-  where
-    IsFunction : FormTree → Type 0
-    IsFunction (function g) = Unit {0}
-    IsFunction _ = ⊥
 
 -- the module attribute, the one export attribute, and then functions
 abbrev pub IsInOrder : Name → List PlacedTree → Type 0
 IsInOrder name (f ∷ g ∷ fs) = (f.form ≡ module_name name) × IsExport g.form × AreFunctions fs
-  where
-    IsExport : FormTree → Type 0
-    IsExport (export refs) = Unit {0}
-    IsExport _ = ⊥
 IsInOrder name _ = ⊥
 
 -- the forms spell the module within the limits

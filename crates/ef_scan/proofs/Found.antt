@@ -6,7 +6,8 @@ use Rattle.std.proofs.lemmas.List.{take-append-drop, length-take-le}
 use Rattle.std.proofs.lemmas.Bool.Decides.{nat_tests}
 use denote.Ref.{Bor}
 use Rattle.ef_base.specs.Cut.{Longest}
-use Rattle.ef_base.proofs.CutLaws.{Begins, same_front}
+use Rattle.ef_base.specs.Taken.{Begins}
+use Rattle.ef_base.proofs.CutLaws.{same_front}
 use Rattle.ef_token.specs.declared.word.Word.{Word}
 use Rattle.ef_token.specs.declared.word.Sym.{Sym}
 use Rattle.ef_token.specs.declared.word.Sym.TheVariants as symbols

@@ -3,7 +3,8 @@ use Rattle.std.specs.Prelude.{ℕ, ◌+◌, ◌<◌, ◌==◌, ◌≡◌, ◌≢
 use Rattle.std.proofs.Common.{ap, ◌∙◌, sym, subst, arith, length-append}
 use Rattle.std.proofs.lemmas.Bool.Decides.{nat_tests}
 use Rattle.ef_base.specs.Cut.{Longest}
-use Rattle.ef_base.proofs.CutLaws.{OneCut, Begins}
+use Rattle.ef_base.specs.Taken.{Begins}
+use Rattle.ef_base.proofs.CutLaws.{OneCut}
 use Rattle.ef_token.specs.declared.word.Sym.{Sym}
 use Rattle.ef_token.specs.declared.word.Sym.TheVariants as symbols
 use Rattle.ef_token.specs.Words.{sym_text}

@@ -8,3 +8,4 @@ pub mod Symbols
 pub mod KindOf
 pub mod Gathering
 pub mod Scanning
+pub mod OneScan

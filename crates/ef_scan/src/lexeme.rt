@@ -1,6 +1,6 @@
 // The lexeme at the front of a text, each kind by a function of its own.
 ghost use Rattle.std.specs.Prelude.{◌≡◌, IfSome, IfNone, IsTrue, true, ◌↔◌, chars, IsUtf8};
-ghost use Rattle.ef_base.proofs.CutLaws.{Begins};
+ghost use Rattle.ef_base.specs.Taken.{Begins};
 ghost use Rattle.ef_token.specs.Lexeme as lexemes;
 ghost use Rattle.ef_token.specs.Lexeme.{EndsForm};
 ghost use Rattle.ef_scan.specs.Pieces.{IsFound, IsNotBuilt, Stops};

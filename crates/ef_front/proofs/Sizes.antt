@@ -1,0 +1,101 @@
+-- A function weighs no more than the bytes of its source: each node takes a token, and each token a character.
+use Rattle.std.proofs.Common.{◌≡◌, ◌≤◌, ◌+◌, ℕ, suc, max, List, [], ◌∷◌, ◌++◌, length, sym, ap, ◌∙◌, subst, arith, length-append, Bool, false}
+use Rattle.std.specs.Prelude.{chars, encode_utf8_all, IsUtf8}
+use Rattle.std.proofs.lemmas.Str.{encodes-chars, length-le-encodes}
+use Rattle.ef_base.specs.declared.name.Name.{Name}
+use Rattle.ef_base.specs.Texts.{Texts}
+use Rattle.ef_base.specs.Positions.{Position, first_position, position_after}
+use Rattle.ef_base.specs.Cut.{Placed, Cuts}
+use Rattle.ef_base.specs.Taken.{Begins}
+use Rattle.ef_token.specs.Lexeme.{Lexeme, Gap, Spelled, CutsInto, AreTokens}
+use Rattle.ef_token.specs.declared.token.Token.{Token}
+use Rattle.ef_scan.specs.Scan.{ScansTo, joined}
+use Rattle.ef_scan.proofs.Lexemes.{cut_facts}
+use Rattle.ef_forms.specs.Tree.{Tree, Trees, Clauses, FunctionTree, FormTree, PlacedTree, ModuleTree, module_name, export, function}
+use Rattle.ef_forms.specs.Weight.{weight, all_weight, clauses_weight, function_weight}
+use Rattle.ef_forms.specs.Built.{Each, functions_in, functions_of}
+use Rattle.ef_parse.specs.Grammar.{Spells, SpellsAll, SpellsSome, SpellsClauses, a_variable, an_atom, an_integer, parentheses, a_call, a_remote, nothing, some, one, and_more, one_clause}
+use Rattle.ef_module.specs.Forms.{SpellsForm, SpellsForms, SpellsModule, a_module_name, an_export, a_function}
+
+-- ---- a node takes a token
+
+mutual
+  weighs : (e : Tree) (k d : ℕ) (ts : List Token) → Spells e k d ts → weight e ≤ length ts
+  weighs e k d ts (a_variable n p) = omega arith
+  weighs e k d ts (an_atom n p) = omega arith
+  weighs e k d ts (an_integer i p) = omega arith
+  weighs e k d ts (parentheses e' k' d' p q es h) = let inner = weighs e' k' d' es h in simp length-append (omega arith)
+  weighs e k d ts (a_call f args d' g p q fs xs h hs) =
+      let target = weighs f _ d' fs h in let others = weighs_all args g xs hs in simp length-append (omega arith)
+  weighs e k d ts (a_remote m f args c d' g p q r ms fs xs h h' hs) =
+      let first = weighs m _ c ms h in let second = weighs f _ d' fs h' in let others = weighs_all args g xs hs in simp length-append (omega arith)
+
+  weighs_all : (es : Trees) (d : ℕ) (ts : List Token) → SpellsAll es d ts → all_weight es ≤ length ts
+  weighs_all es d ts nothing = omega arith
+  weighs_all es d ts (some es' d' ts' h) = weighs_some es' d' ts' h
+
+  weighs_some : (es : Trees) (d : ℕ) (ts : List Token) → SpellsSome es d ts → all_weight es ≤ length ts
+  weighs_some es d ts (one e k d' ts' h) = let here = weighs e k d' ts' h in omega arith
+  weighs_some es d ts (and_more e es' k d' g p ts' us h hs) =
+      let here = weighs e k d' ts' h in let others = weighs_some es' g us hs in simp length-append (omega arith)
+
+clauses_weigh : (n : Name) (cs : Clauses) (d : ℕ) (ts : List Token) → SpellsClauses n cs d ts → clauses_weight cs ≤ length ts
+clauses_weigh n cs d ts (one_clause n' ps es d' g p q r s xs ys h hs) =
+    let heads = weighs_all ps d' xs h in let body = weighs_some es g ys hs in simp length-append (omega arith)
+
+-- ---- functions of forms
+
+abbrev pub AreLight : ℕ → List FunctionTree → Type 0
+AreLight most fs = Each (λ (f : FunctionTree). function_weight f ≤ most) fs
+
+light_more : (few many : ℕ) (fs : List FunctionTree) → few ≤ many → AreLight few fs → AreLight many fs
+light_more few many [] le light = tt
+light_more few many (f ∷ fs) le light = let here : function_weight f ≤ few = light.0 in (omega arith, light_more few many fs le light.1)
+
+light_both : (most : ℕ) (fs gs : List FunctionTree) → AreLight most fs → AreLight most gs → AreLight most (fs ++ gs)
+light_both most [] gs light more = more
+light_both most (f ∷ fs) gs light more = (light.0, light_both most fs gs light.1 more)
+
+form_light : (all : Texts) (f : FormTree) (ts : List Token) → SpellsForm all f ts → AreLight (length ts) (functions_of f)
+form_light all f ts (a_module_name m n p q r s t u at) = tt
+form_light all f ts (an_export m fs p q r s t u v ts' at h) = tt
+form_light all f ts (a_function n cs d p ts' h le) = let here = clauses_weigh n cs d ts' h in (simp length-append (omega arith), tt)
+
+forms_light : (all : Texts) (fs : List PlacedTree) (tss : List (List Token)) → SpellsForms all fs tss → AreLight (length (joined tss)) (functions_in fs)
+forms_light all [] [] spelled = tt
+forms_light all [] (ts ∷ tss) spelled = absurd spelled
+forms_light all (f ∷ fs) [] spelled = absurd spelled
+forms_light all (f ∷ fs) (ts ∷ tss) spelled =
+    let all_of : length (ts ++ joined tss) ≡ length ts + length (joined tss) = length-append ts (joined tss) in
+    light_both (length (ts ++ joined tss)) (functions_of f.form) (functions_in fs)
+      (light_more (length ts) _ _ (omega arith) (form_light all f.form ts spelled.1))
+      (light_more (length (joined tss)) _ _ (omega arith) (forms_light all fs tss spelled.3))
+
+-- ---- a token takes a character
+
+as_many : (all : Texts) (file : ℕ) (ls : List (Placed Lexeme)) (ts : List Token) → AreTokens all file ls ts → length ts ≡ length ls
+as_many all file [] [] are = omega arith
+as_many all file [] (t ∷ ts) are = absurd are
+as_many all file (l ∷ ls) [] are = absurd are
+as_many all file (l ∷ ls) (t ∷ ts) are = let rest = as_many all file ls ts are.2 in omega arith
+
+not_empty : (test : ℕ → Bool) (value : Bool) (front : List ℕ) → Begins test value front → 1 ≤ length front
+not_empty test value [] h = absurd h
+not_empty test value (c ∷ cs) h = omega arith
+
+cut_length : (at : Position) (text : List ℕ) (ls : List (Placed Lexeme)) → CutsInto at text ls → length ls ≤ length text
+cut_length at text [] cut = omega arith
+cut_length at text (l ∷ ls) cut =
+    let rest = cut_length (position_after l.at cut.1) cut.2 ls cut.8 in
+    let front : 1 ≤ length cut.1 = not_empty cut_facts.begins_gap false cut.1 (cut_facts.lexeme l.lexeme cut.1 cut.2 cut.6) in
+    let parts : length text ≡ length cut.0 + (length cut.1 + length cut.2) = ap length cut.3 ∙ length-append cut.0 (cut.1 ++ cut.2) ∙ ap (λ n. length cut.0 + n) (length-append cut.1 cut.2) in
+    omega arith
+
+-- the functions of a module weigh no more than the bytes of its source
+pub light : (all : Texts) (source : List ℕ) (forms : List (List Token)) (m : ModuleTree) → ScansTo all 0 source forms → SpellsModule all m forms → AreLight (length source) (functions_in m.forms)
+light all source forms m scanned spelled =
+    let tokens : length (joined forms) ≡ length scanned.lexemes = as_many all 0 scanned.lexemes (joined forms) scanned.tokens in
+    let lexemes : length scanned.lexemes ≤ length (chars source) = cut_length first_position (chars source) scanned.lexemes scanned.cut in
+    let bytes : length (chars source) ≤ length (encode_utf8_all (chars source)) = length-le-encodes (chars source) in
+    let same : length (encode_utf8_all (chars source)) ≡ length source = ap length (encodes-chars source scanned.utf8) in
+    light_more (length (joined forms)) (length source) (functions_in m.forms) (omega arith) (forms_light all m.forms forms spelled.spelled)

@@ -1,5 +1,12 @@
 pub mod Found
 pub mod Headline
+pub mod OfNames
+pub mod OneModule
+pub mod OneSource
+pub mod Renamed
+pub mod RenamedBuilt
+pub mod RenamedFaults
+pub mod Renaming
 pub mod Told
 pub mod White
 pub mod Added

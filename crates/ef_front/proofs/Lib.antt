@@ -1,3 +1,4 @@
+pub mod Added
 pub mod Found
 pub mod Headline
 pub mod OfNames
@@ -7,7 +8,6 @@ pub mod Renamed
 pub mod RenamedBuilt
 pub mod RenamedFaults
 pub mod Renaming
+pub mod Sizes
 pub mod Told
 pub mod White
-pub mod Added
-pub mod Sizes

@@ -6,12 +6,12 @@ use Rattle.ef_base.specs.declared.fault.Place.{Place}
 use Rattle.ef_base.specs.declared.fault.Fault.{Fault}
 use Rattle.ef_base.specs.declared.name.Name.{Name}
 use Rattle.ef_base.specs.Texts.{Texts, AllDiffer}
-use Rattle.ef_forms.specs.Tree.{Tree, Shape, Trees, Clauses, FunctionTree, PlacedTree, tree, int, atom, var, call, remote, end, more, no_clauses, clause}
-use Rattle.ef_forms.specs.Built.{Each, functions_in}
-use Rattle.ef_forms.specs.Ways.{NameSet, Way, no_names, one_name, union, bind, beside, ways, shape_ways, side_by_side, names, shape_names, all_names, on_some, use_faults, faults, shape_faults, all_faults, body_faults, clauses_faults, function_faults}
-use Rattle.ef_front.proofs.Renaming.{renamed, renamed_shape, renamed_all, renamed_clauses, renamed_function, renamed_placed}
-use Rattle.ef_front.proofs.OfNames.{TreeOf, ShapeOf, TreesOf, ClausesOf, FunctionOf, FormsOf, all_functions}
-use Rattle.ef_front.proofs.RenamedBuilt.{Keeps, injective, functions_renamed}
+use Rattle.ef_forms.specs.Tree.{Tree, Shape, Trees, Clauses, FormTree, PlacedTree, tree, int, atom, var, call, remote, end, more, no_clauses, clause, module_name, export, function}
+use Rattle.ef_forms.specs.Ways.{NameSet, Way, no_names, one_name, union, bind, beside, ways, shape_ways, side_by_side, names, shape_names, all_names, on_some, use_faults, faults, shape_faults, all_faults, body_faults, clauses_faults}
+use Rattle.ef_front.specs.Source.{form_faults, forms_faults}
+use Rattle.ef_front.proofs.Renaming.{renamed, renamed_shape, renamed_all, renamed_clauses, renamed_form, renamed_placed}
+use Rattle.ef_front.proofs.OfNames.{TreeOf, ShapeOf, TreesOf, ClausesOf, FormOf, FormsOf}
+use Rattle.ef_front.proofs.RenamedBuilt.{Keeps, injective}
 
 same_test : (p q : Bool) → (p ≡ true → q ≡ true) → (q ≡ true → p ≡ true) → p ≡ q
 same_test true q f g = sym (f refl)
@@ -119,6 +119,7 @@ module _ (a b : Texts) (r : Name → Name) (differ : AllDiffer b) where
       ap₂ (λ (bound : Bool) (words : List ℕ). let fault : Fault = record { place = p; code = 451; words = words } in if bound then [] else (fault ∷ []))
       (on_some_alike n ss ts k h) k.same
 
+  -- two lists that are equal in both parts
   both : {A : Type 0} {xs ys us vs : List A} → xs ≡ ys → us ≡ vs → xs ++ us ≡ ys ++ vs
   both e f = ap₂ (λ x y. x ++ y) e f
 
@@ -151,12 +152,11 @@ module _ (a b : Texts) (r : Name → Name) (differ : AllDiffer b) where
       (alike_flat (bind (all_names (renamed_all r ps))) (bind (all_names ps)) ss ts (alike_bind (all_names (renamed_all r ps)) (all_names ps) (all_names_alike ps k.0)) h))
       (clauses_alike cs ss ts k.2 h)
 
-  functions_alike : (fs : List FunctionTree) → Each (FunctionOf (Keeps a b r)) fs → flat_map (function_faults a) (map (renamed_function r) fs) ≡ flat_map (function_faults b) fs
-  functions_alike [] k = refl
-  functions_alike (f ∷ fs) k =
-      both (clauses_alike f.clauses (no_names ∷ []) (no_names ∷ []) k.0.1 ((λ n l. refl), tt)) (functions_alike fs k.1)
+  form_alike : (f : FormTree) → FormOf (Keeps a b r) f → form_faults a (renamed_form r f) ≡ form_faults b f
+  form_alike (module_name n) k = refl
+  form_alike (export refs) k = refl
+  form_alike (function f) k = clauses_alike f.clauses (no_names ∷ []) (no_names ∷ []) k.1 ((λ n l. refl), tt)
 
-  pub faults_renamed : (fs : List PlacedTree) → FormsOf (Keeps a b r) fs
-      → flat_map (function_faults a) (functions_in (map (renamed_placed r) fs)) ≡ flat_map (function_faults b) (functions_in fs)
-  faults_renamed fs k =
-      ap (flat_map (function_faults a)) (functions_renamed r fs) ∙ functions_alike (functions_in fs) (all_functions (Keeps a b r) fs k)
+  pub faults_renamed : (fs : List PlacedTree) → FormsOf (Keeps a b r) fs → forms_faults a (map (renamed_placed r) fs) ≡ forms_faults b fs
+  faults_renamed [] k = refl
+  faults_renamed (f ∷ fs) k = both (form_alike f.form k.0) (faults_renamed fs k.1)

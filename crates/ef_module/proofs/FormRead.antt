@@ -213,7 +213,7 @@ form_of all f ts (a_function n cs d p us c w) h = (name_of all n cs d us c (firs
 pub no_function : (ts : List Token) (f : Fault) → AreClausesRefused ts (Faulty f) → (n : Name) (cs : Clauses) → ReadsFunction n cs ts → ⊥
 no_function ts f r n cs x =
     ⊎_elim (λ none. none.1 n cs x.nesting x.spelled)
-      (λ d. let same = one_clauses n d.1.0 cs d.1.1 x.nesting d.1.2 ts x.spelled d.1.4 in omega (arith, same.1, x.within, d.1.3)) r
+    (λ d. let same = one_clauses n d.1.0 cs d.1.1 x.nesting d.1.2 ts x.spelled d.1.4 in omega (arith, same.1, x.within, d.1.3)) r
 
 long : (ts : List Token) → IsForm ts → 0 < length ts
 long [] h = absurd h

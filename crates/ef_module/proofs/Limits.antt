@@ -81,12 +81,13 @@ clauses_there no_clauses h = tt
 clauses_there (clause p ps g body cs) h =
     let one = left_of (narrow_clause ps g body) (narrow_clauses cs) h in
     let a = right_of (nat_le (count ps) most_arguments) (narrow_all ps && (narrow_guard g && narrow_all body)) one in
-    let b = right_of (narrow_all ps) (narrow_guard g && narrow_all body) a in
-    (le_there _ _ (left_of (nat_le (count ps) most_arguments) (narrow_all ps && (narrow_guard g && narrow_all body)) one),
-     there_all ps (left_of (narrow_all ps) (narrow_guard g && narrow_all body) a),
-     guard_there g (left_of (narrow_guard g) (narrow_all body) b),
-     there_all body (right_of (narrow_guard g) (narrow_all body) b),
-     clauses_there cs (right_of (narrow_clause ps g body) (narrow_clauses cs) h))
+    let b = right_of (narrow_all ps) (narrow_guard g && narrow_all body) a in (
+      le_there _ _ (left_of (nat_le (count ps) most_arguments) (narrow_all ps && (narrow_guard g && narrow_all body)) one),
+      there_all ps (left_of (narrow_all ps) (narrow_guard g && narrow_all body) a),
+      guard_there g (left_of (narrow_guard g) (narrow_all body) b),
+      there_all body (right_of (narrow_guard g) (narrow_all body) b),
+      clauses_there cs (right_of (narrow_clause ps g body) (narrow_clauses cs) h),
+    )
 
 pub clauses_back : (cs : Clauses) → AreNarrowClauses cs → narrow_clauses cs ≡ true
 clauses_back no_clauses h = refl

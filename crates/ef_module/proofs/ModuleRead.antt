@@ -57,7 +57,7 @@ pub one_more : {A : Type 0} (now : Texts) (plain : A → PlacedTree) (old new : 
     → (plain x).place ≡ start_of v.items → ReadsForm now (plain x).form v.items → ReadsForms now (map plain new) (lists (take (i + 1) vs))
 one_more now plain old new x vs i v h e is r p f =
     let next : take (i + 1) vs ≡ take i vs ++ v ∷ [] =
-      ap (λ n. take n vs) (more_is i) ∙ take-suc vs i v h ∙ ap (λ z. take i vs ++ z ∷ []) (sym e) in
+    ap (λ n. take n vs) (more_is i) ∙ take-suc vs i v h ∙ ap (λ z. take i vs ++ z ∷ []) (sym e) in
     subst (λ z. ReadsForms now z (lists (take (i + 1) vs))) (sym (ap (map plain) is ∙ map_more plain old x))
     (subst (ReadsForms now (map plain old ++ plain x ∷ [])) (sym (ap lists next ∙ lists_more (take i vs) v))
     (reads_more now (map plain old) (lists (take i vs)) (plain x) v.items r p f))
@@ -193,8 +193,8 @@ module_made now fs tss n r e few =
     record {
       spelled = λ all later. record { spelled = spelled_all now all fs tss later r; in_order = order; few = omega (arith, count_in_order fs n order, few) };
       alone = λ all later other s.
-        let same : other.forms ≡ fs = alone_all now all fs other.forms tss later r s.spelled in
-        module_is other n fs (some_is other.name n (sym (order_back other.forms other.name s.in_order) ∙ ap name_in same ∙ sym e)) same;
+          let same : other.forms ≡ fs = alone_all now all fs other.forms tss later r s.spelled in
+          module_is other n fs (some_is other.name n (sym (order_back other.forms other.name s.in_order) ∙ ap name_in same ∙ sym e)) same;
     }
 
 pub no_name : (now : Texts) (fs : List PlacedTree) (tss : List (List Token)) → ReadsForms now fs tss → None ≡ name_in fs → IsNoModule now tss

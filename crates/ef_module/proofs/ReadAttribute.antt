@@ -112,6 +112,7 @@ module _ (all : Texts) where
     where
       le_true : (a b : ℕ) → a ≤ b → nat_le a b ≡ true
       le_true a b h = grind (arith, nat_tests)
+
       min_is : (a : ℕ) → a ≤ 255 → a ≡ min a (2 ^ 32 - 1)
       min_is a h = omega arith
 
@@ -210,10 +211,16 @@ module _ (all : Texts) where
 
   put : (f : FunctionRef) (rs : List FunctionRef) (us ts : List Token) (o : Outcome) → SpellsReference f us → f.arity ≤ 255 → Goes (rs ++ f ∷ []) ts o → Left rs (us ++ ts) o
   put f rs us ts o s n (inl c) = (f ∷ [], us, ts, refl, one f us s, (n, tt), c.0, c.1)
-  put f rs us ts o s n (inr g) =
-      (f ∷ g.3.0, us ++ symbol sy.Comma g.0 ∷ g.3.1, g.3.2,
-       ap (λ z. us ++ z) g.2 ∙ ap (λ z. us ++ symbol sy.Comma g.0 ∷ z) g.3.3 ∙ sym (append_assoc us (symbol sy.Comma g.0 ∷ g.3.1) g.3.2),
-       and_more f g.3.0 g.0 us g.3.1 s g.3.4, (n, g.3.5), g.3.6, g.3.7 ∙ ap listed (append_assoc rs (f ∷ []) g.3.0))
+  put f rs us ts o s n (inr g) = (
+    f ∷ g.3.0,
+    us ++ symbol sy.Comma g.0 ∷ g.3.1,
+    g.3.2,
+    ap (λ z. us ++ z) g.2 ∙ ap (λ z. us ++ symbol sy.Comma g.0 ∷ z) g.3.3 ∙ sym (append_assoc us (symbol sy.Comma g.0 ∷ g.3.1) g.3.2),
+    and_more f g.3.0 g.0 us g.3.1 s g.3.4,
+    (n, g.3.5),
+    g.3.6,
+    g.3.7 ∙ ap listed (append_assoc rs (f ∷ []) g.3.0),
+  )
 
   -- an arity within the limit, and its entry
   entry_of : (n : Name) (p q r : Place) (a : ℕ) → a ≤ 255 → SpellsReference (record { place = p; name = n; arity = a }) (token (kind.Atom n) p ∷ symbol sy.Slash q ∷ token (kind.Int (pos a)) r ∷ [])
@@ -273,7 +280,7 @@ module _ (all : Texts) where
       go ahead.Slash l e =
           let c : Counts n t.place rs ts o = next e in
           let whole : t ∷ u ∷ ts ≡ (token (kind.Atom n) t.place ∷ symbol sy.Slash u.place ∷ token (kind.Int (pos c.0)) c.1 ∷ []) ++ c.2 =
-            token_is t _ (u ∷ ts) k ∙ ap (λ z. token (kind.Atom n) t.place ∷ z) (token_is u _ ts l ∙ ap (λ z. symbol sy.Slash u.place ∷ z) c.3) in
+          token_is t _ (u ∷ ts) k ∙ ap (λ z. token (kind.Atom n) t.place ∷ z) (token_is u _ ts l ∙ ap (λ z. symbol sy.Slash u.place ∷ z) c.3) in
           subst (λ z. Left rs z o) (sym whole) (put _ rs _ c.2 o (entry_of n t.place u.place c.1 c.0 c.4) c.4 c.5)
       go _ l e = absurd (not_made o e h)
 
@@ -294,8 +301,8 @@ module _ (all : Texts) where
       entry_step t (u ∷ v ∷ []) rs o (λ n k e'. slash_step t n u (v ∷ []) rs o k (λ e2. arity_step n t.place v [] rs o (λ rs' e3. absurd (not_made o e3 h)) e2 h) e' h) e h
   after_entry (t ∷ u ∷ v ∷ w ∷ ts) rs o e h =
       entry_step t (u ∷ v ∷ w ∷ ts) rs o
-        (λ n k e'. slash_step t n u (v ∷ w ∷ ts) rs o k
-          (λ e2. arity_step n t.place v (w ∷ ts) rs o (λ rs' e3. behind_step w ts rs' o (λ e4. after_entry ts rs' o e4 h) e3 h) e2 h) e' h) e h
+      (λ n k e'. slash_step t n u (v ∷ w ∷ ts) rs o k
+      (λ e2. arity_step n t.place v (w ∷ ts) rs o (λ rs' e3. behind_step w ts rs' o (λ e4. after_entry ts rs' o e4 h) e3 h) e2 h) e' h) e h
 
   -- the entries of an export, with what closes it
   abbrev Listed : List Token → Outcome → Type 0
@@ -375,7 +382,7 @@ module _ (all : Texts) where
       let c = after_first b.1 o b.3 h in
       let d = c.6 in
       let whole : ts ≡ symbol sy.LeftParen a.0 ∷ symbol sy.LeftBracket b.0 ∷ (c.1 ++ symbol sy.RightBracket d.0 ∷ symbol sy.RightParen d.1 ∷ token kind.Dot d.2 ∷ []) =
-        a.2 ∙ ap (λ z. symbol sy.LeftParen a.0 ∷ z) (b.2 ∙ ap (λ z. symbol sy.LeftBracket b.0 ∷ z) (c.3 ∙ ap (λ z. c.1 ++ z) d.3)) in
+      a.2 ∙ ap (λ z. symbol sy.LeftParen a.0 ∷ z) (b.2 ∙ ap (λ z. symbol sy.LeftBracket b.0 ∷ z) (c.3 ∙ ap (λ z. c.1 ++ z) d.3)) in
       subst (λ z. IsSpelled o (symbol sy.Minus p ∷ token (kind.Atom m) q ∷ z)) (sym whole)
       (subst (λ z. IsSpelled z (symbol sy.Minus p ∷ token (kind.Atom m) q ∷ symbol sy.LeftParen a.0 ∷ symbol sy.LeftBracket b.0 ∷ (c.1 ++ symbol sy.RightBracket d.0 ∷ symbol sy.RightParen d.1 ∷ token kind.Dot d.2 ∷ []))) (sym c.7)
       (an_export m c.0 p q a.0 b.0 d.0 d.1 d.2 c.1 w c.4, c.5))

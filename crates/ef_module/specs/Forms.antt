@@ -19,7 +19,7 @@ most_nesting = 128
 pub data SpellsReference : FunctionRef → List Token → Type 0 where
   a_reference : (n : Name) (arity : ℕ) (p q r : Place)
       → SpellsReference (record { place = p; name = n; arity = min arity (2 ^ 32 - 1) })
-          (token (kind.Atom n) p ∷ symbol sym.Slash q ∷ token (kind.Int (pos arity)) r ∷ [])
+      (token (kind.Atom n) p ∷ symbol sym.Slash q ∷ token (kind.Int (pos arity)) r ∷ [])
 
 -- one or more, with commas between
 pub data SpellsReferences : List FunctionRef → List Token → Type 0 where
@@ -41,13 +41,13 @@ arity_of (clause p ps g es cs) = count ps
 pub data SpellsForm (all : Texts) : FormTree → List Token → Type 0 where
   a_module_name : (m n : Name) (p q r s t u : Place) → IsNameOf all m (codes "module")
       → SpellsForm all (module_name n)
-          (symbol sym.Minus p ∷ token (kind.Atom m) q ∷ symbol sym.LeftParen r ∷ token (kind.Atom n) s ∷ symbol sym.RightParen t
-          ∷ token kind.Dot u ∷ [])
+      (symbol sym.Minus p ∷ token (kind.Atom m) q ∷ symbol sym.LeftParen r ∷ token (kind.Atom n) s ∷ symbol sym.RightParen t
+      ∷ token kind.Dot u ∷ [])
   an_export : (m : Name) (fs : List FunctionRef) (p q r s t u v : Place) (ts : List Token) → IsNameOf all m (codes "export")
       → SpellsReferenceList fs ts
       → SpellsForm all (export fs)
-          (symbol sym.Minus p ∷ token (kind.Atom m) q ∷ symbol sym.LeftParen r ∷ symbol sym.LeftBracket s
-          ∷ (ts ++ symbol sym.RightBracket t ∷ symbol sym.RightParen u ∷ token kind.Dot v ∷ []))
+      (symbol sym.Minus p ∷ token (kind.Atom m) q ∷ symbol sym.LeftParen r ∷ symbol sym.LeftBracket s
+      ∷ (ts ++ symbol sym.RightBracket t ∷ symbol sym.RightParen u ∷ token kind.Dot v ∷ []))
   a_function : (n : Name) (cs : Clauses) (d : ℕ) (p : Place) (ts : List Token) → SpellsClauses n cs d ts → d ≤ most_nesting
       → SpellsForm all (function (record { place = start_of ts; name = n; arity = arity_of cs; clauses = cs })) (ts ++ token kind.Dot p ∷ [])
 

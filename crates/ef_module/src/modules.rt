@@ -31,7 +31,11 @@ pub fn module(alloc: Global, names: &mut Names, forms: &[Vec<Token>]) -> Result<
     }
 }
 
-fn read_module(alloc: Global, names: &Names, forms: &[Vec<Token>]) -> Result<Option<Module>, NoMemory>
+fn read_module(
+    alloc: Global,
+    names: &Names,
+    forms: &[Vec<Token>],
+) -> Result<Option<Module>, NoMemory>
     requires ends { AreForms (lists forms.now) }
     requires named { AllTokensOf names.now (lists forms.now) }
     ensures { IfOk result (λ made. IsReadModule names.now (lists forms.now) made) }

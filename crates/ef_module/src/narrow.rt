@@ -16,9 +16,7 @@ fn is_narrow(expr: &Expr) -> bool
 {
     match &expr.node {
         Node::Int(_) | Node::Atom(_) | Node::Var(_) => true,
-        Node::Call { target, args } => {
-            is_narrow(target) && are_narrow_args(args.as_slice())
-        }
+        Node::Call { target, args } => { is_narrow(target) && are_narrow_args(args.as_slice()) }
         Node::Remote {
             module,
             function,

@@ -17,11 +17,11 @@ read_form-requires-clause-named c =
 pub returns-in_default : goal.returns-in_default
 returns-in_default c =
     no_form_at c.args.names.now c.args.forms.now c.loop-tokens.tokens-index c.tokens-item.result c.loop-tokens-test.true c.tokens-item.is
-      (subst (IsNoForm c.args.names.now) c.as_slice.ensures.value (subst (IsReadForm c.args.names.now c.as_slice.result.now) c.in_default.is c.in_ok-form.ensures))
+    (subst (IsNoForm c.args.names.now) c.as_slice.ensures.value (subst (IsReadForm c.args.names.now c.as_slice.result.now) c.in_default.is c.in_ok-form.ensures))
 
 pub loop-tokens-preserved : goal.loop-tokens-preserved
 loop-tokens-preserved c =
     one_more c.args.names.now plain_placed _ c.push.new.self.items (record { place = c.start_of-place.result; form = c.in-Some.form }) c.args.forms.now c.loop-tokens.tokens-index c.tokens-item.result
-      c.loop-tokens-test.true c.tokens-item.is c.in_ok-push.ensures.items c.loop-tokens.invariant
-      (c.start_of-place.ensures ∙ ap start_of c.as_slice-in-loop-tokens.ensures.value)
-      (subst (ReadsForm c.args.names.now (plain_form c.in-Some.form)) c.as_slice.ensures.value (subst (IsReadForm c.args.names.now c.as_slice.result.now) c.in-Some.is c.in_ok-form.ensures))
+    c.loop-tokens-test.true c.tokens-item.is c.in_ok-push.ensures.items c.loop-tokens.invariant
+    (c.start_of-place.ensures ∙ ap start_of c.as_slice-in-loop-tokens.ensures.value)
+    (subst (ReadsForm c.args.names.now (plain_form c.in-Some.form)) c.as_slice.ensures.value (subst (IsReadForm c.args.names.now c.as_slice.result.now) c.in-Some.is c.in_ok-form.ensures))

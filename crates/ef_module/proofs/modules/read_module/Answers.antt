@@ -12,18 +12,18 @@ length_placed (f ∷ fs) = omega (arith, length_placed fs)
 pub returns-in_default-name_of : goal.returns-in_default-name_of
 returns-in_default-name_of c =
     no_name c.args.names.now (map plain_placed c.in-Some.placed.items) (lists c.args.forms.now)
-      (subst (IsReadForms c.args.names.now (lists c.args.forms.now)) c.in-Some.is c.in_ok-placed.ensures)
-      (c.in_default-name_of.ensures ∙ ap (λ z. name_in (map plain_placed z)) c.as_slice.ensures.value)
+    (subst (IsReadForms c.args.names.now (lists c.args.forms.now)) c.in-Some.is c.in_ok-placed.ensures)
+    (c.in_default-name_of.ensures ∙ ap (λ z. name_in (map plain_placed z)) c.as_slice.ensures.value)
 
 pub returns-then-len-gt-MOST_FORMS : goal.returns-then-len-gt-MOST_FORMS
 returns-then-len-gt-MOST_FORMS c =
     too_many c.args.names.now (map plain_placed c.in-Some.placed.items) (lists c.args.forms.now)
-      (subst (IsReadForms c.args.names.now (lists c.args.forms.now)) c.in-Some.is c.in_ok-placed.ensures)
-      (omega (arith, length_placed c.in-Some.placed.items, c.in-Some.placed.ok.0, c.len.ensures, c.if-len-gt-MOST_FORMS.true))
+    (subst (IsReadForms c.args.names.now (lists c.args.forms.now)) c.in-Some.is c.in_ok-placed.ensures)
+    (omega (arith, length_placed c.in-Some.placed.items, c.in-Some.placed.ok.0, c.len.ensures, c.if-len-gt-MOST_FORMS.true))
 
 pub returns : goal.returns
 returns c =
     module_made c.args.names.now (map plain_placed c.in-Some.placed.items) (lists c.args.forms.now) c.in-Some-name_of.name
-      (subst (IsReadForms c.args.names.now (lists c.args.forms.now)) c.in-Some.is c.in_ok-placed.ensures)
-      (c.in-Some-name_of.ensures ∙ ap (λ z. name_in (map plain_placed z)) c.as_slice.ensures.value)
-      (omega (arith, length_placed c.in-Some.placed.items, c.in-Some.placed.ok.0, c.len.ensures, c.if-len-gt-MOST_FORMS.false))
+    (subst (IsReadForms c.args.names.now (lists c.args.forms.now)) c.in-Some.is c.in_ok-placed.ensures)
+    (c.in-Some-name_of.ensures ∙ ap (λ z. name_in (map plain_placed z)) c.as_slice.ensures.value)
+    (omega (arith, length_placed c.in-Some.placed.items, c.in-Some.placed.ok.0, c.len.ensures, c.if-len-gt-MOST_FORMS.false))

@@ -132,7 +132,11 @@ fn modules(rt: HostRuntime) -> Result<(), Fail> {
         ("-m(a)", "-e([])", "a(", 0),
     ];
     for (first, second, third, want) in table {
-        assert_eq!(rt; count(rt.alloc(), first, second, third)?, want, "{first} {second} {third}");
+        assert_eq!(rt;
+            count(rt.alloc(), first, second, third)?,
+            want,
+            "{first} {second} {third}"
+        );
     }
     Ok(())
 }

@@ -1,6 +1,5 @@
 -- What the answers for attributes and functions say of a form.
-use Rattle.std.proofs.Common.{◌≡◌, ℕ, ◌+◌, ◌-◌, ◌≤◌, ◌<◌, Bool, true, false, List, [], ◌∷◌, ◌++◌, refl, sym, ap, ◌∙◌, subst, arith, append_assoc, Option, Some, None, codes, length, length-append, Vec, take, zero, suc, ⊎_elim}
-use Rattle.std.specs.declared.alloc.Global.{Global}
+use Rattle.std.proofs.Common.{◌≡◌, ℕ, ◌+◌, ◌-◌, ◌<◌, true, false, List, [], ◌∷◌, ◌++◌, refl, sym, ap, ◌∙◌, subst, arith, Option, Some, None, codes, length, take, zero, suc, ⊎_elim}
 use Rattle.ef_base.specs.declared.fault.Place.{Place}
 use Rattle.ef_base.specs.declared.fault.Fault.{Fault}
 use Rattle.ef_base.specs.declared.fault.Refusal.TheVariants.{Faulty}
@@ -20,21 +19,17 @@ use Rattle.ef_forms.specs.declared.form.Form.{Form}
 use Rattle.ef_forms.specs.declared.form.Form.TheVariants as form
 use Rattle.ef_forms.specs.declared.form.FunctionRef.{FunctionRef}
 use Rattle.ef_forms.specs.Tree.{Clauses, FormTree, module_name, export, function}
-use Rattle.ef_forms.specs.Plain.{plain_form}
-use Rattle.ef_forms.specs.Built.{AreNarrowClauses}
-use Rattle.ef_forms.specs.OfTable.{FormOf, FormsOf, ReferencesOf, ClausesOf}
-use Rattle.ef_parse.specs.Grammar.{token, symbol, start_of, SpellsClauses, one_clause}
+use Rattle.ef_forms.specs.OfTable.{FormOf, ReferencesOf}
+use Rattle.ef_parse.specs.Grammar.{token, symbol, SpellsClauses, one_clause}
 use Rattle.ef_parse.proofs.One.{one_clauses}
 use Rattle.ef_parse.proofs.OfTable.{clauses_of, first, second}
-use Rattle.ef_module.specs.declared.ahead.Ahead.{Ahead}
-use Rattle.ef_module.specs.declared.ahead.Ahead.TheVariants as ahead
 use Rattle.ef_module.specs.declared.attribute.Keyword.TheVariants as keyword
 use Rattle.ef_module.specs.declared.attribute.Mode.{Mode}
 use Rattle.ef_module.specs.declared.attribute.Mode.TheVariants as mode
-use Rattle.ef_module.specs.Attribute.{seen, seen_symbol, keyword_of, Move, Take, Stop, Outcome, named, listed, refused, went, after_keyword, at_keyword, move, at_end, follow, run, IsAnswer}
-use Rattle.ef_module.specs.Forms.{SpellsForm, a_module_name, an_export, a_function, SpellsReference, SpellsReferences, SpellsReferenceList, a_reference, one, and_more, nothing, some, IsNarrowForm, most_nesting, arity_of}
-use Rattle.ef_module.specs.Read.{ReadsForm, IsNoForm, IsReadForm, is_minus, is_attribute, first_name, ReadsFunction, function_of, IsReadFunction}
-use Rattle.ef_module.proofs.ReadAttribute.{module_read, export_read, attribute_spelled, IsSpelled}
+use Rattle.ef_module.specs.Attribute.{seen, seen_symbol, keyword_of, Move, Take, Stop, Outcome, named, listed, refused, went, after_keyword, at_keyword, move, follow, run, IsAnswer}
+use Rattle.ef_module.specs.Forms.{SpellsForm, a_module_name, an_export, a_function, SpellsReference, SpellsReferences, SpellsReferenceList, a_reference, one, and_more, nothing, some, IsNarrowForm}
+use Rattle.ef_module.specs.Read.{IsReadForm, is_attribute, first_name, ReadsFunction, function_of, IsReadFunction}
+use Rattle.ef_module.proofs.ReadAttribute.{module_read, export_read, attribute_spelled}
 
 -- ---- later tables
 

@@ -3,3 +3,4 @@ pub mod ReadAttribute
 pub mod OfTables
 pub mod FormRead
 pub mod ModuleRead
+pub mod InnerTokens

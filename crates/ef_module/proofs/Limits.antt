@@ -1,10 +1,10 @@
 -- The tests of the limits, one list item at a time, and what they say.
-use Rattle.std.proofs.Common.{◌≡◌, ◌≢◌, ℕ, ◌+◌, ◌≤◌, ◌<◌, Bool, true, false, List, [], ◌∷◌, ◌++◌, refl, sym, ap, ◌∙◌, subst, arith, length, map, zero, suc}
+use Rattle.std.proofs.Common.{◌≡◌, ℕ, ◌≤◌, Bool, true, false, List, [], ◌∷◌, refl, arith, length}
 use Rattle.std.specs.Prelude.{nat_le, ◌&&◌}
 use Rattle.std.proofs.lemmas.Bool.Decides.{nat_tests}
 use Rattle.ef_forms.specs.declared.expr.Expr.{Expr}
 use Rattle.ef_forms.specs.Tree.{Tree, Shape, Trees, Guards, Clauses, tree, int, atom, var, call, remote, end, more, no_guard, or_guard, no_clauses, clause, count}
-use Rattle.ef_forms.specs.Plain.{plain, plain_all}
+use Rattle.ef_forms.specs.Plain.{plain_all}
 use Rattle.ef_forms.specs.Built.{most_arguments, IsNarrow, IsNarrowShape, AreNarrow, AreNarrowGuards, AreNarrowClauses}
 use Rattle.ef_forms.proofs.Plain.{plain_expr, plain_int, plain_atom, plain_var, plain_call, plain_remote}
 use Rattle.ef_module.specs.Narrow.{narrow, narrow_shape, narrow_all, narrow_guard, narrow_clause, narrow_clauses}

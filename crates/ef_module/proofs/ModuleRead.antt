@@ -1,5 +1,5 @@
 -- What the answers for forms say of a module.
-use Rattle.std.proofs.Common.{◌≡◌, ℕ, zero, suc, ◌+◌, ◌≤◌, ◌<◌, Bool, true, false, List, [], ◌∷◌, ◌++◌, refl, sym, ap, ◌∙◌, subst, arith, Option, Some, None, length, length-append, get_or, take, map, Vec}
+use Rattle.std.proofs.Common.{◌≡◌, ℕ, zero, suc, ◌+◌, ◌≤◌, ◌<◌, Bool, true, false, List, [], ◌∷◌, ◌++◌, refl, sym, ap, ◌∙◌, subst, arith, Some, None, length, get_or, take, map, Vec}
 use Rattle.std.specs.Prelude.{◌&&◌, if◌then◌else◌}
 use Rattle.std.proofs.Math.Seq.{take-suc}
 use Rattle.std.specs.declared.alloc.Global.{Global}
@@ -9,8 +9,8 @@ use Rattle.ef_base.specs.Texts.{Texts, Extends, HasName}
 use Rattle.ef_base.specs.Laws.{extends_same}
 use Rattle.ef_token.specs.declared.token.Token.{Token}
 use Rattle.ef_token.specs.TokenForm.{IsForm, AreForms, TokensOf, AllTokensOf}
-use Rattle.ef_forms.specs.Tree.{FunctionTree, FormTree, PlacedTree, ModuleTree, module_name, export, function}
-use Rattle.ef_forms.specs.Built.{functions_in, most_functions}
+use Rattle.ef_forms.specs.Tree.{FormTree, PlacedTree, ModuleTree, module_name, export, function}
+use Rattle.ef_forms.specs.Built.{functions_in}
 use Rattle.ef_forms.specs.OfTable.{FormOf, FormsOf, ModuleOf}
 use Rattle.ef_parse.specs.Grammar.{start_of}
 use Rattle.ef_module.specs.Forms.{SpellsForm, SpellsForms, SpellsModule, IsInOrder, AreFunctions, IsFunction, IsExport}

@@ -1,5 +1,5 @@
 -- What is spelled as an attribute, and what the machine makes of it.
-use Rattle.std.proofs.Common.{◌≡◌, ◌≢◌, ℕ, ℤ, pos, negsuc, ◌+◌, ◌-◌, ◌^◌, ◌≤◌, ◌<◌, min, Bool, true, false, List, [], ◌∷◌, ◌++◌, refl, sym, ap, ◌∙◌, subst, arith, append_assoc, append-nil, cond, Option, Some, None, codes, inl, inr}
+use Rattle.std.proofs.Common.{◌≡◌, ℕ, ℤ, pos, negsuc, ◌-◌, ◌^◌, ◌≤◌, min, Bool, true, false, List, [], ◌∷◌, ◌++◌, refl, sym, ap, ◌∙◌, subst, arith, append_assoc, cond, Option, Some, None, codes, inl, inr}
 use Rattle.std.specs.Prelude.{nat_le, ◌⊎◌}
 use Rattle.std.specs.Str.{bytes_eq}
 use Rattle.std.proofs.lemmas.Bool.Decides.{nat_tests}
@@ -16,14 +16,14 @@ use Rattle.ef_forms.specs.declared.form.FunctionRef.{FunctionRef}
 use Rattle.ef_parse.specs.Grammar.{token, symbol}
 use Rattle.ef_module.specs.Forms.{SpellsReference, SpellsReferences, SpellsReferenceList, a_reference, one, and_more, nothing, some, AreNarrowReferences, SpellsForm, a_module_name, an_export}
 use Rattle.ef_token.specs.TokenForm.{KindOf, TokensOf}
-use Rattle.ef_forms.specs.Tree.{FormTree, module_name, export}
+use Rattle.ef_forms.specs.Tree.{module_name, export}
 use Rattle.ef_module.specs.declared.ahead.Ahead.{Ahead}
 use Rattle.ef_module.specs.declared.ahead.Ahead.TheVariants as ahead
 use Rattle.ef_module.specs.declared.attribute.Keyword.{Keyword}
 use Rattle.ef_module.specs.declared.attribute.Keyword.TheVariants as keyword
 use Rattle.ef_module.specs.declared.attribute.Mode.{Mode}
 use Rattle.ef_module.specs.declared.attribute.Mode.TheVariants as mode
-use Rattle.ef_module.specs.Attribute.{seen, seen_symbol, keyword_of, arity_of, Move, Take, Stop, Outcome, named, listed, refused, went, after_keyword, at_minus, at_keyword, at_name_open, at_name, at_list_open, at_list, at_first, at_entry, at_slash, entered, at_arity, at_behind, at_close, at_dot, move, made, at_end, follow, run}
+use Rattle.ef_module.specs.Attribute.{seen, seen_symbol, keyword_of, arity_of, Take, Outcome, named, listed, refused, went, after_keyword, at_minus, at_keyword, at_name_open, at_name, at_list_open, at_list, at_first, at_entry, at_slash, entered, at_arity, at_behind, at_close, at_dot, made, follow, run}
 
 -- ---- the token that is seen
 

@@ -1,5 +1,5 @@
 -- The grammar of forms and of modules, as far as it is built.
-use Rattle.std.specs.Prelude.{ℕ, ◌^◌, ◌-◌, ◌≤◌, ◌≡◌, min, max, pos, List, [], ◌∷◌, ◌++◌, codes, length}
+use Rattle.std.specs.Prelude.{ℕ, ◌^◌, ◌-◌, ◌≤◌, ◌≡◌, min, pos, List, [], ◌∷◌, ◌++◌, codes, length}
 use Rattle.ef_base.specs.declared.name.Name.{Name}
 use Rattle.ef_base.specs.declared.fault.Place.{Place}
 use Rattle.ef_base.specs.Texts.{Texts, IsNameOf}
@@ -7,7 +7,7 @@ use Rattle.ef_token.specs.declared.token.TokenKind.TheVariants as kind
 use Rattle.ef_token.specs.declared.token.Token.{Token}
 use Rattle.ef_token.specs.declared.word.Sym.TheVariants as sym
 use Rattle.ef_forms.specs.declared.form.FunctionRef.{FunctionRef}
-use Rattle.ef_forms.specs.Tree.{Trees, Guards, Clauses, FunctionTree, FormTree, PlacedTree, ModuleTree, module_name, export, function, clause, no_guard, no_clauses, count}
+use Rattle.ef_forms.specs.Tree.{Clauses, FormTree, PlacedTree, ModuleTree, module_name, export, function, clause, no_clauses, count}
 use Rattle.ef_forms.specs.Built.{AreNarrowClauses, functions_in, most_arguments, most_functions}
 use Rattle.ef_parse.specs.Grammar.{token, symbol, start_of, SpellsClauses}
 

@@ -1,5 +1,5 @@
 -- The limits on parameters and arguments, as tests.
-use Rattle.std.specs.Prelude.{ℕ, nat_le, Bool, true, false, ◌&&◌}
+use Rattle.std.specs.Prelude.{nat_le, Bool, true, ◌&&◌}
 use Rattle.ef_forms.specs.Tree.{Tree, Shape, Trees, Guards, Clauses, tree, int, atom, var, call, remote, end, more, no_guard, or_guard, no_clauses, clause, count}
 use Rattle.ef_forms.specs.Built.{most_arguments}
 

@@ -1,5 +1,5 @@
 -- What is answered for the tokens of a form and of a module.
-use Rattle.std.specs.Prelude.{ℕ, ◌≡◌, ◌≤◌, Bool, true, false, ◌&&◌, if◌then◌else◌, List, [], ◌∷◌, ◌++◌, Option, Some, None, Vec, map}
+use Rattle.std.specs.Prelude.{ℕ, ◌≡◌, ◌≤◌, Bool, true, false, ◌&&◌, if◌then◌else◌, List, [], ◌∷◌, Option, Some, None, Vec, map}
 use Rattle.std.specs.declared.alloc.Global.{Global}
 use Rattle.ef_base.specs.declared.fault.Fault.{Fault}
 use Rattle.ef_base.specs.declared.name.Name.{Name}
@@ -10,10 +10,10 @@ use Rattle.ef_token.specs.declared.token.TokenKind.TheVariants as kind
 use Rattle.ef_forms.specs.declared.form.Form.{Form}
 use Rattle.ef_forms.specs.declared.form.PlacedForm.{PlacedForm}
 use Rattle.ef_forms.specs.declared.form.Module.{Module}
-use Rattle.ef_forms.specs.Tree.{Clauses, FunctionTree, FormTree, PlacedTree, ModuleTree, module_name, export, function}
+use Rattle.ef_forms.specs.Tree.{Clauses, FormTree, PlacedTree, ModuleTree, module_name, export, function}
 use Rattle.ef_forms.specs.Plain.{plain_form, plain_placed, plain_module}
 use Rattle.ef_forms.specs.Built.{AreNarrowClauses}
-use Rattle.ef_parse.specs.Grammar.{token, start_of, SpellsClauses}
+use Rattle.ef_parse.specs.Grammar.{start_of, SpellsClauses}
 use Rattle.ef_module.specs.declared.ahead.Ahead.{Ahead}
 use Rattle.ef_module.specs.declared.ahead.Ahead.TheVariants as ahead
 use Rattle.ef_module.specs.declared.forms.FormRefusal.{FormRefusal}

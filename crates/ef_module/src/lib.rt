@@ -10,3 +10,6 @@ mod narrow;
 
 pub use forms::{FormRefusal, form};
 pub use modules::module;
+
+#[cfg(test)]
+mod tests;

@@ -1,5 +1,5 @@
 -- Tokens whose names are of a table spell trees whose names are.
-use Rattle.std.proofs.Common.{◌≡◌, ℕ, List, [], ◌∷◌, ◌++◌}
+use Rattle.std.proofs.Common.{ℕ, List, [], ◌∷◌, ◌++◌}
 use Rattle.ef_base.specs.Texts.{Texts}
 use Rattle.ef_base.specs.declared.name.Name.{Name}
 use Rattle.ef_token.specs.declared.token.Token.{Token}

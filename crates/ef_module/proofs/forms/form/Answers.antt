@@ -1,4 +1,4 @@
-use Rattle.std.proofs.Common.{◌≡◌, subst}
+use Rattle.std.proofs.Common.{subst}
 use Rattle.ef_base.specs.Laws.{extends_same}
 use Rattle.ef_forms.specs.Plain.{plain_form}
 use Rattle.ef_module.specs.Read.{ReadsForm, IsReadForm}

@@ -1,8 +1,5 @@
-use Rattle.std.proofs.Common.{◌≡◌, ◌∙◌, sym, ap, arith, length, take, ◌-◌}
+use Rattle.std.proofs.Common.{◌∙◌, sym, length, take, ◌-◌}
 use Rattle.std.proofs.lemmas.Result.{IfOk-weaker}
-use Rattle.ef_module.specs.Read.{IsReadForm, IsReadFunction}
-use Rattle.ef_module.specs.Attribute.{IsAnswer, run}
-use Rattle.ef_module.specs.declared.attribute.Mode.TheVariants as mode
 use Rattle.ef_module.proofs.FormRead.{attribute_read, function_read, before_dot}
 use Rattle.ef_module.proofs.forms.read_form.Goals as goal
 

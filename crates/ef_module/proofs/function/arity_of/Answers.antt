@@ -1,7 +1,7 @@
-use Rattle.std.proofs.Common.{◌≡◌, ℕ, ◌≤◌, ◌^◌, ◌<◌, List, [], ◌∷◌, length, refl, sym, ap, ◌∙◌, subst, arith, Some, Fits, w32}
+use Rattle.std.proofs.Common.{◌≡◌, ◌≤◌, List, [], ◌∷◌, length, sym, ap, ◌∙◌, arith, Some}
 use Rattle.std.specs.Prelude.{slice_get}
 use Rattle.ef_forms.specs.declared.expr.Clause.{Clause}
-use Rattle.ef_forms.specs.Plain.{plain_all, plain_clauses}
+use Rattle.ef_forms.specs.Plain.{plain_clauses}
 use Rattle.ef_forms.specs.Built.{AreNarrowClauses}
 use Rattle.ef_module.specs.Forms.{arity_of}
 use Rattle.ef_module.proofs.Limits.{count_all}

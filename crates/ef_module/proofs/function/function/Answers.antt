@@ -1,4 +1,4 @@
-use Rattle.std.proofs.Common.{◌≡◌, subst}
+use Rattle.std.proofs.Common.{subst}
 use Rattle.ef_parse.specs.Reads.{AreClausesRefused}
 use Rattle.ef_module.proofs.FormRead.{no_function}
 use Rattle.ef_module.proofs.function.function.Goals as goal

@@ -1,13 +1,12 @@
 use Rattle.std.proofs.Common.{◌≡◌, ap, ◌∙◌, sym, subst, true, false, Some}
 use Rattle.ef_base.specs.declared.name.Name.{Name}
-use Rattle.ef_forms.specs.Tree.{Clauses, FunctionTree, function}
+use Rattle.ef_forms.specs.Tree.{function}
 use Rattle.ef_forms.specs.Plain.{plain_clauses}
 use Rattle.ef_forms.specs.Built.{AreNarrowClauses}
 use Rattle.ef_parse.specs.Grammar.{start_of}
 use Rattle.ef_parse.proofs.One.{one_clauses}
 use Rattle.ef_module.specs.Forms.{arity_of}
 use Rattle.ef_module.specs.Narrow.{narrow_clauses}
-use Rattle.ef_module.specs.Read.{first_name}
 use Rattle.ef_module.proofs.Limits.{clauses_there, clauses_back}
 use Rattle.ef_module.proofs.FormRead.{clauses_name}
 use Rattle.ef_module.proofs.function.function_of.Goals as goal

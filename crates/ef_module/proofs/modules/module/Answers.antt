@@ -1,4 +1,4 @@
-use Rattle.std.proofs.Common.{◌≡◌, subst}
+use Rattle.std.proofs.Common.{subst}
 use Rattle.ef_forms.specs.Plain.{plain_module}
 use Rattle.ef_module.specs.Read.{IsReadModule, lists}
 use Rattle.ef_module.proofs.ModuleRead.{module_of}

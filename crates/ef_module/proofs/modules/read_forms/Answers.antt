@@ -1,4 +1,4 @@
-use Rattle.std.proofs.Common.{◌≡◌, ◌∙◌, sym, ap, subst}
+use Rattle.std.proofs.Common.{◌∙◌, sym, ap, subst}
 use Rattle.ef_token.specs.TokenForm.{IsForm, TokensOf}
 use Rattle.ef_forms.specs.Plain.{plain_form, plain_placed}
 use Rattle.ef_parse.specs.Grammar.{start_of}

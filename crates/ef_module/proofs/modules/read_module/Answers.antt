@@ -1,4 +1,4 @@
-use Rattle.std.proofs.Common.{◌≡◌, ℕ, ◌≤◌, ◌<◌, ◌∙◌, sym, ap, subst, arith, length, map, List, [], ◌∷◌, ◌+◌, refl}
+use Rattle.std.proofs.Common.{◌≡◌, ◌∙◌, ap, subst, arith, length, map, List, [], ◌∷◌, refl}
 use Rattle.ef_forms.specs.Plain.{plain_placed}
 use Rattle.ef_forms.specs.declared.form.PlacedForm.{PlacedForm}
 use Rattle.ef_module.specs.Read.{IsReadForms, name_in, lists}

@@ -3,3 +3,5 @@ pub mod Headline
 pub mod Told
 pub mod White
 pub mod Added
+pub mod Sizes
+pub mod Pending

@@ -5,3 +5,4 @@ pub mod Input
 pub mod Lines
 pub mod Runs
 pub mod Headline
+pub mod Buffered

@@ -2,6 +2,7 @@
 #![tactic(auto)]
 
 mod blank;
+mod buffered;
 mod compiling;
 mod faults;
 mod job;
@@ -9,6 +10,7 @@ mod listing;
 mod refused;
 mod telling;
 mod top;
+mod writing;
 
 pub use telling::give_up;
 pub use top::erlfront;

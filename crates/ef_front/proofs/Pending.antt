@@ -28,11 +28,11 @@ part_and_rest (x ∷ pending) (suc handed) n =
 pub handed_more : (old mid new : SinkView) (pending piece : List ℕ) (from handed n : ℕ) → IsHandedSoFar old mid pending from handed → piece ≡ drop handed pending → IsAppended mid new (take n piece) → Stays mid new → new.faults ≡ mid.faults → IsHandedSoFar old new pending from (handed + n)
 handed_more old mid new pending piece from handed n before is appended stays faults = record {
   written =
-    let told : new.written ≡ with_more mid.written (take n (drop handed pending)) = appended.written ∙ ap (λ p. with_more mid.written (take n p)) is in
-    ap (λ w. with_more w (drop (handed + n) pending)) told
-    ∙ with_more-with_more mid.written (take n (drop handed pending)) (drop (handed + n) pending)
-    ∙ ap (with_more mid.written) (part_and_rest pending handed n)
-    ∙ before.written;
+      let told : new.written ≡ with_more mid.written (take n (drop handed pending)) = appended.written ∙ ap (λ p. with_more mid.written (take n p)) is in
+      ap (λ w. with_more w (drop (handed + n) pending)) told
+      ∙ with_more-with_more mid.written (take n (drop handed pending)) (drop (handed + n) pending)
+      ∙ ap (with_more mid.written) (part_and_rest pending handed n)
+      ∙ before.written;
   stays = record { is_open = stays.is_open ∙ before.stays.is_open; created = stays.created ∙ before.stays.created };
   faults = faults ∙ before.faults;
 }
@@ -65,9 +65,11 @@ told_front (Some bytes) None rest text n none le is = absurd (cc)
 told_front (Some bytes) (Some front) rest text n none le is =
     let same : front ++ rest ≡ take n text = ap told_bytes is ∙ ap (λ b. b ++ take n text) none in
     let all = whole front rest text n same in
-    let long : length text ≡ length front + length (rest ++ drop n text) = ap length all ∙ length-append front (rest ++ drop n text) in
-    (length front, omega arith,
-     ap Some (sym (ap (λ b. b ++ take (length front) text) none ∙ ap (take (length front)) all ∙ take-append_seam front (rest ++ drop n text))))
+    let long : length text ≡ length front + length (rest ++ drop n text) = ap length all ∙ length-append front (rest ++ drop n text) in (
+      length front,
+      omega arith,
+      ap Some (sym (ap (λ b. b ++ take (length front) text) none ∙ ap (take (length front)) all ∙ take-append_seam front (rest ++ drop n text))),
+    )
 
 -- what an empty sink holds after a fault is a front part, whatever is left gathered
 pub settled : (old new : SinkView) (rest text : List ℕ) (r : Result Unit Failed) → HoldsNone old.written → PutsThrough old new rest text r → PutsTold old new text r

@@ -13,7 +13,12 @@ use ef_io::{Failed, Sink};
 use ef_print::print;
 
 /// Writes the text of the module into an empty sink, gathered in the buffer. It takes no memory.
-pub fn write_module<O: Sink>(names: &Names, module: &CoreModule, sink: &mut O, buffer: Vec<u8>) -> Result<(), Failed>
+pub fn write_module<O: Sink>(
+    names: &Names,
+    module: &CoreModule,
+    sink: &mut O,
+    buffer: Vec<u8>,
+) -> Result<(), Failed>
     requires is_open { (O.seen sink.old).is_open ≡ true }
     requires holds_none { HoldsNone (O.seen sink.old).written }
     requires named { CoreModuleOf names.now (plain_module «module».now) }
@@ -31,7 +36,11 @@ pub fn write_module<O: Sink>(names: &Names, module: &CoreModule, sink: &mut O, b
 }
 
 // Prints the module and hands on all of it.
-fn print_through<O: Sink>(names: &Names, module: &CoreModule, buffered: &mut Buffered<'_, O>) -> Result<(), Failed>
+fn print_through<O: Sink>(
+    names: &Names,
+    module: &CoreModule,
+    buffered: &mut Buffered<'_, O>,
+) -> Result<(), Failed>
     requires is_open { (O.seen buffered.old.sink.now).is_open ≡ true }
     requires named { CoreModuleOf names.now (plain_module «module».now) }
     requires nothing_pending { buffered.old.pending.items ≡ [] }

@@ -1,9 +1,11 @@
 pub mod Added
+pub mod Chain
 pub mod Found
 pub mod Headline
 pub mod OfNames
 pub mod OneModule
 pub mod OneSource
+pub mod Pending
 pub mod Renamed
 pub mod RenamedBuilt
 pub mod RenamedFaults

@@ -6,3 +6,4 @@ pub mod Lines
 pub mod Runs
 pub mod Compiles
 pub mod Headline
+pub mod Buffered

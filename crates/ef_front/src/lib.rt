@@ -2,6 +2,7 @@
 #![tactic(auto)]
 
 mod blank;
+mod buffered;
 mod compiling;
 mod faults;
 mod job;
@@ -10,6 +11,7 @@ mod refused;
 mod source;
 mod telling;
 mod top;
+mod writing;
 
 pub use telling::give_up;
 pub use top::erlfront;

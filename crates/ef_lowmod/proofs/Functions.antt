@@ -1,5 +1,5 @@
 -- The parts of functions that can be lowered.
-use Rattle.std.proofs.Common.{◌≡◌, ◌≤◌, ◌<◌, ◌+◌, ◌*◌, ℕ, zero, suc, Bool, true, false, ◌||◌, ◌==◌, List, [], ◌∷◌, ◌++◌, length, get_or, take, map, refl, sym, ap, ◌∙◌, subst, arith, add-one}
+use Rattle.std.proofs.Common.{◌≡◌, ◌≤◌, ◌<◌, ◌+◌, ◌*◌, ℕ, zero, suc, Bool, true, false, ◌||◌, ◌==◌, List, [], ◌∷◌, ◌++◌, length, get_or, take, refl, sym, ap, ◌∙◌, subst, arith, add-one}
 use Rattle.ef_base.specs.declared.name.Name.{Name}
 use Rattle.ef_base.specs.declared.fault.Place.{Place}
 use Rattle.ef_base.specs.Texts.{Texts}
@@ -13,9 +13,9 @@ use Rattle.ef_core.specs.OfTable.{Each}
 use Rattle.ef_forms.specs.Built.{AreBuilt, AreNarrow, AreNarrowClauses, AreVariables, IsBuiltClauses}
 use Rattle.ef_forms.specs.OfTable.{ClausesOf, TreesOf}
 use Rattle.ef_forms.specs.Plain.{plain, plain_all, plain_clauses, plain_guard}
-use Rattle.ef_forms.specs.Ways.{NameSet, no_names, union, names, all_names, body_faults, clauses_faults}
+use Rattle.ef_forms.specs.Ways.{no_names, names, all_names, body_faults, clauses_faults}
 use Rattle.ef_forms.specs.Weight.{all_weight, clauses_weight}
-use Rattle.ef_lower.proofs.Source.{some_weight, count_is}
+use Rattle.ef_lower.proofs.Source.{some_weight}
 use Rattle.ef_lower.specs.Ready.{bound_names}
 use Rattle.ef_lowmod.specs.Function.{AreWhole, IsReadyFunction, IsVariable}
 

@@ -6,7 +6,9 @@ use Rattle.ef_core.specs.declared.tree.CoreVar.{CoreVar}
 use Rattle.ef_core.specs.declared.tree.CoreVar.TheVariants.{Numbered, Named}
 use Rattle.ef_core.specs.OfTable.{CoreOf, CoresOf, DefOf, Each, LitOf, StepsOf, VarOf}
 use Rattle.ef_core.specs.Tree.{CoreTree, CoreTrees, CoreSteps, DefTree, LitTree, int, atom, var, lit, fun_name, lets, apply, call, end, more, done, step}
-use Rattle.ef_forms.specs.Tree.{FunctionTree}
+use Rattle.ef_forms.specs.OfTable.{ClausesOf, GuardsOf, ShapeOf, TreeOf, TreesOf}
+use Rattle.ef_forms.specs.Tree as s
+use Rattle.ef_forms.specs.Tree.{Clauses, FunctionTree, Guards, Shape, Tree, Trees}
 use Rattle.ef_lower.specs.Lowers.{IsLowered}
 use Rattle.ef_lowmod.specs.Function.{AreLowered, IsLoweredFunction}
 
@@ -65,3 +67,29 @@ each_def all [] [] is = tt
 each_def all [] (d ∷ ds) is = absurd is
 each_def all (f ∷ fs) [] is = absurd is
 each_def all (f ∷ fs) (d ∷ ds) is = (is.0.of_table, each_def all fs ds is.1)
+
+-- ---- source trees
+
+module _ (now all : Texts) (later : Extends now all) where
+  mutual
+    tree_later : (e : Tree) → TreeOf now e → TreeOf all e
+    tree_later (s.tree p e) is = shape_later e is
+
+    shape_later : (e : Shape) → ShapeOf now e → ShapeOf all e
+    shape_later (s.int i) is = tt
+    shape_later (s.atom n) is = has_later now all n is later
+    shape_later (s.var n) is = has_later now all n is later
+    shape_later (s.call f es) is = (tree_later f is.0, trees_later es is.1)
+    shape_later (s.remote m f es) is = (tree_later m is.0, tree_later f is.1, trees_later es is.2)
+
+    trees_later : (es : Trees) → TreesOf now es → TreesOf all es
+    trees_later s.end is = tt
+    trees_later (s.more e es) is = (tree_later e is.0, trees_later es is.1)
+
+  guards_later : (gs : Guards) → GuardsOf now gs → GuardsOf all gs
+  guards_later s.no_guard is = tt
+  guards_later (s.or_guard es gs) is = (trees_later es is.0, guards_later gs is.1)
+
+  pub clauses_later : (cs : Clauses) → ClausesOf now cs → ClausesOf all cs
+  clauses_later s.no_clauses is = tt
+  clauses_later (s.clause p ps g body cs) is = (trees_later ps is.0, guards_later g is.1, trees_later body is.2, clauses_later cs is.3)

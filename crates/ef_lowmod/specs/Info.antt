@@ -1,5 +1,5 @@
 -- The names that every module has, and the functions `module_info/0` and `/1`.
-use Rattle.std.specs.Prelude.{ℕ, codes, List, [], ◌∷◌}
+use Rattle.std.specs.Prelude.{ℕ, codes, [], ◌∷◌}
 use Rattle.ef_base.specs.declared.name.Name.{Name}
 use Rattle.ef_base.specs.Texts.{Texts, IsNameOf}
 use Rattle.ef_core.specs.declared.tree.CoreVar.TheVariants.{Numbered}

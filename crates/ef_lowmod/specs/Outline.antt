@@ -1,10 +1,7 @@
 -- The outline of a lowered module.
-use Rattle.std.specs.Prelude.{ℕ, ◌≡◌, Bool, not, ◌&&◌, nat_le, bytes_eq, codes, List, [], ◌∷◌, ◌++◌, map, filter}
-use Rattle.ef_base.specs.declared.name.Name.{Name}
-use Rattle.ef_base.specs.Texts.{Texts, text, IsNameOf}
-use Rattle.ef_core.specs.declared.tree.CoreVar.TheVariants.{Numbered}
-use Rattle.ef_core.specs.declared.tree.FName.{FName}
-use Rattle.ef_core.specs.Tree.{CoreTree, DefTree, CoreModuleTree, atom, var, lit, call, end, more}
+use Rattle.std.specs.Prelude.{◌≡◌, Bool, not, ◌&&◌, nat_le, bytes_eq, codes, List, [], ◌∷◌, ◌++◌, map, filter}
+use Rattle.ef_base.specs.Texts.{Texts, text}
+use Rattle.ef_core.specs.Tree.{DefTree, CoreModuleTree}
 use Rattle.ef_forms.specs.declared.tables.FunctionName.{FunctionName}
 use Rattle.ef_forms.specs.Tree.{ModuleTree}
 use Rattle.ef_forms.specs.Built.{functions_in, exports_in}

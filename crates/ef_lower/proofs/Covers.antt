@@ -1,16 +1,15 @@
 -- Where no use is a fault, each variable is bound.
-use Rattle.std.proofs.Common.{◌≡◌, ℕ, Bool, true, false, ◌||◌, ◌==◌, ◌⊎◌, inl, inr, List, [], ◌∷◌, ◌++◌, map, cond, Option, Some, None, refl, sym, ap, ◌∙◌, subst, eqb-true}
+use Rattle.std.proofs.Common.{◌≡◌, ℕ, Bool, true, false, ◌||◌, ◌==◌, ◌⊎◌, inl, inr, List, [], ◌∷◌, ◌++◌, map, cond, Some, None, refl, sym, ap, ◌∙◌, subst, eqb-true}
 use Rattle.std.specs.List.{flat_map, list_any}
 use Rattle.ef_base.specs.declared.name.Name.{Name}
 use Rattle.ef_base.specs.declared.fault.Place.{Place}
-use Rattle.ef_base.specs.declared.fault.Fault.{Fault}
 use Rattle.ef_base.specs.Texts.{Texts}
 use Rattle.ef_core.specs.declared.env.Bind.{Bind}
 use Rattle.ef_core.specs.Env.{held}
 use Rattle.ef_core.specs.OfTable.{Each, BindOf, VarOf}
 use Rattle.ef_core.specs.declared.tree.CoreVar.{CoreVar}
 use Rattle.ef_forms.specs.Tree.{Tree, Shape, Trees, tree, int, atom, var, call, remote, end, more}
-use Rattle.ef_forms.specs.Ways.{NameSet, Way, no_names, one_name, union, stay, bind, before, pairs, beside, names, shape_names, all_names, ways, shape_ways, side_by_side, body_ways, on_some, use_faults, unbound, faults, shape_faults, all_faults, body_faults}
+use Rattle.ef_forms.specs.Ways.{NameSet, union, before, pairs, beside, names, shape_names, all_names, ways, shape_ways, side_by_side, on_some, unbound, faults, shape_faults, all_faults, body_faults}
 use Rattle.ef_lower.specs.Ready.{IsWithin, bound_names}
 
 -- the name is in one of these sets

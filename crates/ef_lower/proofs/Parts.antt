@@ -1,17 +1,17 @@
 -- What parts are lowered to, put together.
-use Rattle.std.proofs.Common.{◌≡◌, ◌≤◌, ◌<◌, ◌+◌, ◌*◌, ℕ, ◌⊎◌, inl, inr, List, [], ◌∷◌, ◌++◌, map, refl, sym, ap, ◌∙◌, subst, arith, append_assoc, append-nil}
+use Rattle.std.proofs.Common.{◌≡◌, ◌≤◌, ◌+◌, ◌*◌, ℕ, inl, inr, List, [], ◌∷◌, ◌++◌, sym, ap, ◌∙◌, subst, arith, append_assoc, append-nil}
 use Rattle.ef_base.specs.declared.name.Name.{Name}
 use Rattle.ef_base.specs.Texts.{Texts, HasName}
 use Rattle.ef_core.specs.declared.tree.CoreVar.{CoreVar}
 use Rattle.ef_core.specs.declared.tree.CoreVar.TheVariants.{Numbered}
 use Rattle.ef_core.specs.declared.tree.FName.{FName}
-use Rattle.ef_core.specs.LetForm.{IsSimple, AreSimple, IsLetForm, AreLetForms}
-use Rattle.ef_core.specs.Normal.{IsNormal, IsNoRun, IsRun, AreNormal, AreNormalSteps}
-use Rattle.ef_core.specs.OfTable.{Each, VarOf, LitOf, CoreOf, CoresOf, StepsOf}
+use Rattle.ef_core.specs.LetForm.{IsSimple, AreSimple, AreLetForms}
+use Rattle.ef_core.specs.Normal.{IsNormal, IsNoRun, AreNormal, AreNormalSteps}
+use Rattle.ef_core.specs.OfTable.{Each, VarOf, LitOf, CoresOf, StepsOf}
 use Rattle.ef_core.specs.Plain.{StepTree, trees, steps}
 use Rattle.ef_core.specs.Tree as c
 use Rattle.ef_core.specs.Tree.{CoreTree, CoreTrees, LitTree}
-use Rattle.ef_lower.specs.Lowers.{IsLowered, IsLoweredStep, Puts, Holds, Finishes, IsArgument, Lowers, LowersAll, Draws}
+use Rattle.ef_lower.specs.Lowers.{IsLowered, IsLoweredStep, Holds, Finishes, IsArgument, Lowers, LowersAll, Draws}
 
 each_both : {A : Type 0} (P : A → Type 0) (xs ys : List A) → Each P xs → Each P ys → Each P (xs ++ ys)
 each_both P [] ys left right = right

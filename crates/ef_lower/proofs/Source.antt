@@ -1,5 +1,5 @@
 -- The trees of source expressions, and what is ready in their parts.
-use Rattle.std.proofs.Common.{◌≡◌, ◌<◌, ◌≤◌, ◌+◌, ◌-◌, ◌*◌, ℕ, ℤ, zero, suc, Bool, true, false, ◌||◌, List, [], ◌∷◌, length, get_or, take, map, Vec, Box, refl, sym, ap, ◌∙◌, subst, arith, add-one, length-take-le}
+use Rattle.std.proofs.Common.{◌≡◌, ◌<◌, ◌≤◌, ◌+◌, ◌-◌, ◌*◌, ℕ, ℤ, zero, suc, Bool, true, false, ◌||◌, List, [], ◌∷◌, length, get_or, take, Vec, Box, refl, sym, ap, ◌∙◌, subst, arith, add-one, length-take-le}
 use Rattle.std.specs.declared.alloc.Global.{Global}
 use Rattle.std.proofs.lemmas.List.{take_all}
 use denote.Param.Weighed.{most, at_most}
@@ -15,7 +15,7 @@ use Rattle.ef_forms.specs.declared.expr.Node.TheFolds.{fold-Node, fold-roll-Node
 use Rattle.ef_forms.specs.declared.tables.FunctionName.{FunctionName}
 use Rattle.ef_forms.specs.Built.{IsAtom, IsCallOf, IsForeignModule}
 use Rattle.ef_forms.specs.OfTable.{TreeOf}
-use Rattle.ef_forms.specs.Tree.{Tree, Shape, Trees, tree, int, atom, var, call, remote, end, more, count}
+use Rattle.ef_forms.specs.Tree.{Tree, Shape, Trees, tree, int, atom, var, call, remote, count}
 use Rattle.ef_forms.specs.Plain.{plain, plain_all, shape_layer, tree_layer}
 use Rattle.ef_forms.specs.Weight.{weight, all_weight}
 use Rattle.ef_forms.specs.Ways.{NameSet, union, names, all_names}

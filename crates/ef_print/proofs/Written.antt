@@ -1,5 +1,5 @@
 -- One text, or one list of pieces, behind another.
-use Rattle.std.proofs.Common.{◌≡◌, ◌≤◌, ◌+◌, ℕ, ℤ, List, [], ◌∷◌, ◌++◌, length, take, Option, Some, None, Result, Ok, Err, IsOk, refl, rules, sym, ap, ◌∙◌, subst, arith, append_assoc, append-nil, length-append}
+use Rattle.std.proofs.Common.{◌≡◌, ◌≤◌, ◌+◌, ℕ, ℤ, List, [], ◌∷◌, ◌++◌, length, take, Option, Some, None, Result, Ok, Err, refl, rules, sym, ap, ◌∙◌, subst, arith, append_assoc, append-nil, length-append}
 use Rattle.std.proofs.Math.Seq.{take-append-add}
 use Rattle.std.proofs.lemmas.List.{take-append-le}
 use Rattle.ef_core.specs.declared.layout.Last.{Last}
@@ -11,7 +11,7 @@ use Rattle.ef_core.specs.Lexeme.{Lexeme, TheWord}
 use Rattle.ef_io.specs.Count.{Rose}
 use Rattle.ef_io.specs.declared.sink.Failed.{Failed}
 use Rattle.ef_io.specs.Sink.{SinkView, IsAppended, Stays, Puts, HasWriteCause, FitsIn, with_more, plus}
-use Rattle.ef_io.specs.Laws.{appended_twice, with_more-with_more}
+use Rattle.ef_io.specs.Laws.{appended_twice}
 use Rattle.ef_print.specs.Prints.{Wrote, Stopped, IsTooSmall, Appends, Prints, Ended, Finished}
 
 -- ---- what one `put` shows

@@ -1,16 +1,13 @@
-use Rattle.std.proofs.Common.{◌≡◌, ◌≤◌, ◌+◌, sym, ap, ◌∙◌, subst, arith, map, rules, length}
-use Rattle.std.specs.Prelude.{Vec}
+use Rattle.std.proofs.Common.{◌≤◌, ◌+◌, sym, ap, ◌∙◌, arith, map}
 use Rattle.std.proofs.lemmas.List.{map-append}
-use Rattle.ef_core.specs.OfTable.{VarOf}
 use Rattle.ef_core.specs.Plain as core
 use Rattle.ef_forms.specs.Plain.{plain, plain_all}
 use Rattle.ef_forms.specs.Tree.{count}
 use Rattle.ef_forms.specs.Weight.{weight, all_weight}
-use Rattle.ef_lower.specs.Lowers.{LowersAll}
 use Rattle.ef_forms.proofs.expr.Expr.TheLaws.{the_size}
 use Rattle.ef_lower.proofs.Covers.{held_of}
 use Rattle.ef_lower.proofs.Parts.{variable_lowers, apply_lowers, call_lowers, more_lowers, units_as}
-use Rattle.ef_lower.proofs.Source.{var_is, call_is, remote_is, ready_as, ready_at, some_weight, take_weight, take_within, count_is, atom_named, item_falls}
+use Rattle.ef_lower.proofs.Source.{call_is, remote_is, ready_as, ready_at, some_weight, take_weight, take_within, count_is, atom_named, item_falls}
 use Rattle.ef_lower.proofs.append.+append.Goals as goal
 
 pub append-overflow_cast-arity : goal.append-overflow_cast-arity

@@ -1,4 +1,4 @@
-use Rattle.std.proofs.Common.{◌≡◌, take, map}
+use Rattle.std.proofs.Common.{take, map}
 use Rattle.ef_core.specs.Plain as core
 use Rattle.ef_forms.specs.Plain.{plain_all}
 use Rattle.ef_forms.specs.Weight.{all_weight}

@@ -1,6 +1,5 @@
-use Rattle.std.proofs.Common.{◌≡◌, ◌≤◌, ◌+◌, [], ◌∷◌, sym, ap, ◌∙◌, arith, length, take, get_or, subst, map, refl}
+use Rattle.std.proofs.Common.{◌≡◌, ◌+◌, [], ◌∷◌, sym, arith, get_or, subst, refl}
 use Rattle.ef_core.specs.Plain as core
-use Rattle.ef_forms.specs.Plain.{plain, plain_all}
 use Rattle.ef_lower.proofs.Parts.{before_lowers, last_lowers, more_lowers, units_as, value_units_as}
 use Rattle.ef_lower.proofs.Source.{last_place, last_weight, ready_at, take_weight, take_within, taken}
 use Rattle.ef_lower.proofs.lower.append_body.Goals as goal

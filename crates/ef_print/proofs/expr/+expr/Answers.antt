@@ -1,4 +1,4 @@
-use Rattle.std.proofs.Common.{rules, ◌≡◌, ◌++◌, sym, ap, ◌∙◌}
+use Rattle.std.proofs.Common.{rules, ◌++◌, sym, ap, ◌∙◌}
 use Rattle.ef_core.specs.declared.lexeme.Symbol.TheVariants.{Comma}
 use Rattle.ef_core.specs.Laws.{plain_lets, plain_apply, plain_call, all_separated, steps_one_by_one, steps_at}
 use Rattle.ef_core.specs.Layout.{put_sym, pieces, args_pieces, steps_pieces, let_pieces, vars_pieces}

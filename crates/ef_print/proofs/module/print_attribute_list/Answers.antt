@@ -1,4 +1,4 @@
-use Rattle.std.proofs.Common.{◌++◌, ap, ◌∙◌}
+use Rattle.std.proofs.Common.{◌++◌, ◌∙◌}
 use Rattle.ef_core.specs.declared.lexeme.Symbol.TheVariants.{Comma}
 use Rattle.ef_core.specs.Layout.{put_sym, attribute_pieces}
 use Rattle.ef_core.specs.OfTable.{AttributeOf}

@@ -1,6 +1,6 @@
 -- From the tokens of a source to what is made of it.
-use Rattle.std.proofs.Common.{◌≡◌, ◌≢◌, ◌≤◌, ◌*◌, ◌⊎◌, ℕ, List, [], ◌∷◌, ◌++◌, Bool, true, false, length, refl, sym, ap, ◌∙◌, subst, arith, inl, inr, map}
-use Rattle.std.specs.Prelude.{chars, IsUtf8}
+use Rattle.std.proofs.Common.{◌≡◌, ◌≢◌, ◌≤◌, ◌*◌, ◌⊎◌, ℕ, List, [], ◌∷◌, ◌++◌, Bool, true, false, length, refl, sym, ap, ◌∙◌, subst, arith, inl, inr, map, Result, Ok, Err, IfOk}
+use Rattle.std.specs.Prelude.{chars, IsUtf8, IsTrue, ◌↔◌}
 use Rattle.std.specs.List.{flat_map}
 use Rattle.std.specs.BTreeSet.{insert_key}
 use Rattle.std.specs.declared.cmp.Ordering.{Ordering}
@@ -39,7 +39,7 @@ use Rattle.ef_front.specs.Input.{limit}
 use Rattle.ef_front.specs.Runs.{IsCompiledText}
 use Rattle.ef_front.specs.Compiles.{HasFaulty, AreTaken, SpellLight, IsLoweredTo, IsFaulty, IsCompiledModule, IsCompiledForms}
 use Rattle.ef_front.proofs.Sizes.{AreLight, light}
-use Rattle.ef_front.proofs.Renamed.{other_table}
+use Rattle.ef_front.proofs.OneSource.{other_source}
 
 -- ---- what a spelled module has
 
@@ -58,8 +58,8 @@ form_whole all f ts (an_export m fs p q r s t u v ts' at h) = tt
 form_whole all f ts (a_function n cs d p ts' (one_clause n' ps es d' g q r s t xs ys h hs) le) = ((refl, not_none es g ys hs, tt), tt)
 
 each_both : {A : Type 0} (P : A → Type 0) (xs ys : List A) → Each P xs → Each P ys → Each P (xs ++ ys)
-each_both P [] ys one two = two
-each_both P (x ∷ xs) ys one two = (one.0, each_both P xs ys one.1 two)
+each_both P [] ys first second = second
+each_both P (x ∷ xs) ys first second = (first.0, each_both P xs ys first.1 second)
 
 forms_narrow : (all : Texts) (fs : List PlacedTree) (tss : List (List Token)) → SpellsForms all fs tss → Each IsNarrowFunction (functions_in fs)
 forms_narrow all [] [] spelled = tt
@@ -87,7 +87,7 @@ light_enough n (f ∷ fs) small are = let here : function_weight f ≤ n = are.0
 
 pub spell_light : (names : Texts) (source : List ℕ) (forms : List (List Token)) → length source ≤ limit → ScansTo names 0 source forms → SpellLight forms
 spell_light names source forms small scanned all m spelled =
-    light_enough (length source) (functions_in m.forms) small (light names source forms all m scanned spelled)
+    light_enough (length source) (functions_in m.forms) small (light names all source forms m scanned spelled)
 
 -- ---- no faults
 
@@ -196,16 +196,33 @@ text_compiled names source forms (Module l) differ dark scanned is =
     let origin : IsSource names source is.0 = record { differ = differ; forms = forms; scanned = scanned; spelled = is.1; built = is.2.built } in
     (of_module names is.0 origin is.2.are,
      record { all = names; module_tree = is.0; spelled = origin; later = l.names; extends = is.3.extends; written = record { core = _; outline = is.3.outline; is = refl } },
-     is.3.of_table)
+     is.3.writable)
 text_compiled names source forms (Faulty faults) differ dark scanned is = (by_case is.1, is.0)
   where
     by_case : ((m : ModuleTree) × SpellsModule names m forms × IsFaulty names m faults) ⊎ (((m : ModuleTree) → SpellsModule names m forms → IsBuilt names m → ⊥) × (faults ≡ at_start 500 [] ∷ []))
         → HasFaults source faults
     by_case (inl here) = of_module names here.0 (record { differ = differ; forms = forms; scanned = scanned; spelled = here.1; built = here.2.built }) here.2.are
     by_case (inr none) = not_built dark (λ all m origin.
-        let same = other_table names all source forms origin.forms m differ origin.differ scanned origin.scanned origin.spelled origin.built in
-        none.0 same.0 same.1 same.2) none.1
+        let other = other_source names all source forms m differ scanned origin in
+        none.0 other.module_tree other.spelled other.is.built) none.1
 
 pub foreign_compiled : (source : List ℕ) (faults : List Fault) → (IsBlank source → ⊥) → IsForeign 0 source → faults ≡ at_start 500 [] ∷ [] → IsCompiledText source (Faulty faults)
 foreign_compiled source faults dark foreign is =
     (not_built dark (λ all m origin. foreign all origin.forms origin.scanned) is, λ none. let bad : [] ≡ at_start 500 [] ∷ [] = sym none ∙ is in cc)
+
+-- ---- what is not built, at one module
+
+pub not_that : (names : Texts) (m : ModuleTree) (faults : List Fault) (b : Bool) → ((all : Texts) → Extends names all → IsTrue b ↔ IsBuilt all m) → b ≡ false → faults ≡ at_start 500 [] ∷ []
+    → IsCompiledModule names m (Faulty faults)
+not_that names m faults b tells is are =
+    (λ none. let bad : [] ≡ at_start 500 [] ∷ [] = sym none ∙ are in cc,
+     inr (λ built. let bad : false ≡ true = sym is ∙ (tells names (extends_same names)).1 built in cc, are))
+
+pub no_that : (names : Texts) (forms : List (List Token)) (faults : List Fault) → ((all : Texts) → Extends names all → (m : ModuleTree) → SpellsModule all m forms → ⊥) → faults ≡ at_start 500 [] ∷ []
+    → IsCompiledForms names forms (Faulty faults)
+no_that names forms faults none are =
+    (λ empty. let bad : [] ≡ at_start 500 [] ∷ [] = sym empty ∙ are in cc, inr (λ m spelled built. none names (extends_same names) m spelled, are))
+
+pub if_ok : {T E : Type 0} (r : Result T E) (P Q : T → Type 0) → ((y : T) → P y → Q y) → IfOk r P → IfOk r Q
+if_ok (Ok y) P Q f h = f y h
+if_ok (Err e) P Q f h = h

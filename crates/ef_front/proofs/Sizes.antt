@@ -92,9 +92,9 @@ cut_length at text (l ∷ ls) cut =
     omega arith
 
 -- the functions of a module weigh no more than the bytes of its source
-pub light : (all : Texts) (source : List ℕ) (forms : List (List Token)) (m : ModuleTree) → ScansTo all 0 source forms → SpellsModule all m forms → AreLight (length source) (functions_in m.forms)
-light all source forms m scanned spelled =
-    let tokens : length (joined forms) ≡ length scanned.lexemes = as_many all 0 scanned.lexemes (joined forms) scanned.tokens in
+pub light : (names all : Texts) (source : List ℕ) (forms : List (List Token)) (m : ModuleTree) → ScansTo names 0 source forms → SpellsModule all m forms → AreLight (length source) (functions_in m.forms)
+light names all source forms m scanned spelled =
+    let tokens : length (joined forms) ≡ length scanned.lexemes = as_many names 0 scanned.lexemes (joined forms) scanned.tokens in
     let lexemes : length scanned.lexemes ≤ length (chars source) = cut_length first_position (chars source) scanned.lexemes scanned.cut in
     let bytes : length (chars source) ≤ length (encode_utf8_all (chars source)) = length-le-encodes (chars source) in
     let same : length (encode_utf8_all (chars source)) ≡ length source = ap length (encodes-chars source scanned.utf8) in

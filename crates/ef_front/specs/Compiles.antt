@@ -10,7 +10,6 @@ use Rattle.ef_scan.specs.Scan.{AreOf}
 use Rattle.ef_forms.specs.Tree.{ModuleTree}
 use Rattle.ef_forms.specs.Built.{Each, IsBuilt, functions_in}
 use Rattle.ef_module.specs.Forms.{SpellsModule}
-use Rattle.ef_core.specs.OfTable.{CoreModuleOf}
 use Rattle.ef_core.specs.Plain.{plain_module}
 use Rattle.ef_lowmod.specs.Function.{IsLight}
 use Rattle.ef_lowmod.specs.Outline.{Outline}
@@ -18,6 +17,7 @@ use Rattle.ef_front.specs.declared.compiling.Lowered.{Lowered}
 use Rattle.ef_front.specs.declared.compiling.Compiled.{Compiled}
 use Rattle.ef_front.specs.declared.compiling.Compiled.TheVariants.{Module, Faulty}
 use Rattle.ef_front.specs.Source.{module_faults, at_start}
+use Rattle.ef_front.specs.Runs.{IsWritable}
 
 -- some form is faulty
 abbrev pub HasFaulty : List ScannedForm → Type 0
@@ -34,11 +34,11 @@ AreTaken scanned false forms = AreOf scanned forms
 abbrev pub SpellLight : List (List Token) → Type 0
 SpellLight forms = (all : Texts) (m : ModuleTree) → SpellsModule all m forms → Each IsLight (functions_in m.forms)
 
--- the Core module has the outline of the module, and the names of both are of its table
+-- the Core module has the outline of the module, and can be written
 pub record IsLoweredTo (names : Texts) (m : ModuleTree) (l : Lowered) : Type 0 where
   pub extends : Extends names l.names
   pub outline : Outline l.names m (plain_module l.«module»)
-  pub of_table : CoreModuleOf l.names (plain_module l.«module»)
+  pub writable : IsWritable l
 
 -- the one fault of what is not built
 abbrev pub IsNotBuilt : List Fault → Type 0

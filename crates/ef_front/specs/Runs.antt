@@ -31,18 +31,18 @@ pub record HasSameCount (old new : SourcesView) : Type 0 where
 abbrev pub text_in : Lowered → List ℕ
 text_in l = text_of l.names (plain_module l.«module»)
 
--- the names of the module are of its table
-abbrev pub IsNamed : Lowered → Type 0
-IsNamed l = CoreModuleOf l.names (plain_module l.«module»)
+-- the names of the module are of its table, and nothing is gathered
+abbrev pub IsWritable : Lowered → Type 0
+IsWritable l = CoreModuleOf l.names (plain_module l.«module») × (l.buffer.items ≡ [])
 
 -- what is made of a source
 abbrev pub IsCompiledText : List ℕ → Compiled → Type 0
-IsCompiledText source (Module l) = HasFaults source [] × IsTextFor source (text_in l) × IsNamed l
+IsCompiledText source (Module l) = HasFaults source [] × IsTextFor source (text_in l) × IsWritable l
 IsCompiledText source (Faulty faults) = HasFaults source faults × (faults ≢ [])
 
 -- what is made of the file at a path
 abbrev pub IsCompiled : Option Files → List ℕ → Compiled → Type 0
-IsCompiled files path (Module l) = MayBeWritten files path (text_in l) × IsNamed l
+IsCompiled files path (Module l) = MayBeWritten files path (text_in l) × IsWritable l
 IsCompiled files path (Faulty faults) = AreFaults files path faults × (faults ≢ [])
 
 -- a path that a run for this file tries: this path alone
@@ -139,6 +139,13 @@ Tells old new text (Err _) =
     ((n : ℕ) × EndsWith old new (take n text) write_line) × (old.faults ≤ new.faults) × Rose old.faults new.faults
 
 -- the output is created and holds the text; at a fault, it is not created or holds a front part
+abbrev pub Produces : List ℕ → List ℕ → SinkView → SinkView → Result Unit Failed → Type 0
+Produces out text old new (Ok _) = (new.created ≡ Some out) × (new.written ≡ told_as old.written text) × (new.faults ≡ old.faults)
+Produces out text old new (Err _) =
+    (IsUncreated new ⊎ ((new.created ≡ Some out) × ((n : ℕ) × (new.written ≡ told_as old.written (take n text)))))
+    × (old.faults ≤ new.faults) × Rose old.faults new.faults
+
+-- the same, and at a fault the line of the write fault
 abbrev pub Delivers : List ℕ → List ℕ → SinkView → SinkView → SinkView → SinkView → Status → Type 0
 Delivers out text output output' diag diag' status.Written =
     (output'.created ≡ Some out) × (output'.written ≡ told_as output.written text) × (output'.faults ≡ output.faults) × (diag' ≡ diag)

@@ -9,11 +9,12 @@ use ef_core::CoreModule;
 use ef_io::{ReadRefusal, Sources};
 use std::alloc::Global;
 
-/// A module in Core, with the table of its names.
+/// A module in Core, with the table of its names, and the empty vector that will gather its text.
 #[derive(Drop)]
 pub struct Lowered {
     pub names: Names,
     pub module: CoreModule,
+    pub buffer: Vec<u8>,
 }
 
 /// The module in Core of a file without faults, or the faults.

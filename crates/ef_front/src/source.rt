@@ -23,6 +23,9 @@ use ef_tables::{is_built, tables};
 use ef_token::{ScannedForm, Token};
 use std::alloc::Global;
 
+// The bytes of text that are gathered before a write.
+const PIECE: usize = 65_536;
+
 /// The module in Core that is made of a source, or the faults of the source.
 pub fn compile_text(alloc: Global, source: &[u8]) -> Result<Compiled, NoMemory>
     requires { length source.now ≤ limit }
@@ -98,5 +101,10 @@ fn compile_module(
         return Ok(Compiled::Faulty(faults));
     }
     let module = lower(alloc, &mut names, module, &tables)?;
-    Ok(Compiled::Module(Lowered { names, module }))
+    let buffer = Vec::with_capacity(alloc, PIECE)?;
+    Ok(Compiled::Module(Lowered {
+        names,
+        module,
+        buffer,
+    }))
 }

@@ -1,0 +1,1 @@
+use Rattle.ef_front.proofs.telling.produce.Goals as goal

@@ -1,5 +1,5 @@
 -- Which variable holds the value of a name.
-use Rattle.std.specs.Prelude.{ℕ, List, [], ◌∷◌, Option, Some, None, ◌==◌, if◌then◌else◌}
+use Rattle.std.specs.Prelude.{List, [], ◌∷◌, Option, Some, None, ◌==◌, if◌then◌else◌}
 use Rattle.ef_base.specs.declared.name.Name.{Name}
 use Rattle.ef_core.specs.declared.tree.CoreVar.{CoreVar}
 use Rattle.ef_core.specs.declared.env.Bind.{Bind}

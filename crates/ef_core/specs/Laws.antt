@@ -12,10 +12,10 @@ use Rattle.ef_core.specs.declared.tree.CoreExpr.{CoreExpr, fold-roll-CoreExpr}
 use Rattle.ef_core.specs.declared.tree.CoreExpr.TheFolds.{fold-LetStep, fold_out-LetStep}
 use Rattle.ef_core.specs.declared.tree.CoreExpr.TheVariants as e
 use Rattle.ef_core.specs.declared.tree.CoreExpr.TheOpen as layer
-use Rattle.ef_core.specs.Tree.{CoreTree, CoreTrees, CoreSteps, var, lit, fun_name, lets, apply, call}
+use Rattle.ef_core.specs.Tree.{CoreTree, var, lit, fun_name, lets, apply, call}
 use Rattle.ef_core.specs.Layout.{separated, put_sym, pieces, all_pieces, more_pieces, steps_pieces, let_pieces}
 use Rattle.ef_core.specs.OfTable.{Each, VarOf, CoreOf, CoresOf, StepsOf}
-use Rattle.ef_core.specs.Plain.{plain, plain_all, plain_lit, plain_steps, plain_step, StepTree, tree_layer, step_layer, trees, steps}
+use Rattle.ef_core.specs.Plain.{plain, plain_all, plain_lit, plain_steps, plain_step, StepTree, tree_layer, step_layer, steps}
 
 -- ---- the tree of each variant
 

@@ -1,5 +1,5 @@
 -- Core trees, without where they lie in memory: two trees are the same where they agree in every part.
-use Rattle.std.specs.Prelude.{ℕ, ℤ, ◌+◌, List, [], ◌∷◌}
+use Rattle.std.specs.Prelude.{ℤ, List}
 use Rattle.ef_base.specs.declared.name.Name.{Name}
 use Rattle.ef_core.specs.declared.tree.CoreVar.{CoreVar}
 use Rattle.ef_core.specs.declared.tree.FName.{FName}

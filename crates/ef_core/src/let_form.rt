@@ -5,9 +5,9 @@ ghost use Rattle.ef_core.specs.Plain.{plain, plain_all, plain_steps};
 
 use crate::{CoreExpr, LetStep};
 
-// A variable or a literal.
+/// Whether it is a variable or a literal.
 #[tactic(auto, using(crate::specs::Laws::plain_laws))]
-fn is_simple(expr: &CoreExpr) -> bool
+pub fn is_simple(expr: &CoreExpr) -> bool
     ensures { IsTrue result ↔ IsSimple (plain expr.now) }
 {
     matches!(expr, CoreExpr::Var(_) | CoreExpr::Lit(_))
@@ -23,9 +23,11 @@ pub fn is_let_form(expr: &CoreExpr) -> bool
         CoreExpr::Var(_) | CoreExpr::Lit(_) | CoreExpr::FunName(_) => true,
         CoreExpr::Lets { steps, body } => are_let_forms(steps) && is_let_form(body),
         CoreExpr::Apply { target, args } => is_let_form(target) && are_simple(args),
-        CoreExpr::Call { module, function, args } => {
-            is_let_form(module) && is_let_form(function) && are_simple(args)
-        }
+        CoreExpr::Call {
+            module,
+            function,
+            args,
+        } => { is_let_form(module) && is_let_form(function) && are_simple(args) }
     }
 }
 

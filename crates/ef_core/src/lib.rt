@@ -12,7 +12,7 @@ mod tree;
 pub use env::{Bind, Env};
 pub use fresh::Fresh;
 pub use layout::Last;
-pub use let_form::is_let_form;
+pub use let_form::{is_let_form, is_simple};
 pub use lexeme::{Symbol, Word};
 pub use module::{CoreAttribute, CoreDef, CoreModule};
 pub use tree::{CoreExpr, CoreLit, CoreVar, FName, LetStep};

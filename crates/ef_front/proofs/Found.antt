@@ -4,7 +4,7 @@ use Rattle.ef_base.specs.declared.fault.Fault.{Fault}
 use Rattle.ef_io.specs.Sources.{Files, Reads, KeepsRead}
 use Rattle.ef_io.specs.declared.sources.ReadRefusal.TheVariants.{TooLarge}
 use Rattle.ef_front.specs.declared.compiling.Compiled.{Compiled}
-use Rattle.ef_front.specs.declared.compiling.Compiled.TheVariants.{Text, Faulty}
+use Rattle.ef_front.specs.declared.compiling.Compiled.TheVariants.{Module, Faulty}
 use Rattle.ef_front.specs.Source.{at_start}
 use Rattle.ef_front.specs.Input.{limit, Finds, AreFaults}
 use Rattle.ef_front.specs.Runs.{IsCompiled, IsCompiledText}
@@ -13,18 +13,21 @@ found : (files : Option Files) (path old source : List ℕ) → old ≡ [] → R
 found None path old source none read = tt
 found (Some files) path old source none read = read.1 ∙ ap Some (sym (read.3 ∙ ap (λ t. t ++ read.0) none))
 
-small : (old source : List ℕ) → old ≡ [] → KeepsRead limit old source (Ok tt) → length source ≤ limit
+pub small : (old source : List ℕ) → old ≡ [] → KeepsRead limit old source (Ok tt) → length source ≤ limit
 small old source none kept = subst (λ t. length t ≤ limit) (sym (kept.2 ∙ ap (λ t. t ++ kept.0) none)) kept.1
 
 -- a file that was read, after nothing
 pub compiled_file : (files : Option Files) (path old source : List ℕ) (result : Compiled) → old ≡ [] → Reads files path limit old source (Ok tt) → KeepsRead limit old source (Ok tt) → IsCompiledText source result → IsCompiled files path result
-compiled_file files path old source (Text text) none read kept is = record {
-  source = source;
-  found = found files path old source none read;
-  small = small old source none kept;
-  faultless = is.0;
-  fits = is.1;
-}
+compiled_file files path old source (Module l) none read kept is = (
+  record {
+    source = source;
+    found = found files path old source none read;
+    small = small old source none kept;
+    faultless = is.0;
+    fits = is.1;
+  },
+  is.2,
+)
 compiled_file files path old source (Faulty faults) none read kept is = (
   record {
     content = Some source;

@@ -4,5 +4,6 @@ pub mod Source
 pub mod Input
 pub mod Lines
 pub mod Runs
+pub mod Compiles
 pub mod Headline
 pub mod Buffered

@@ -7,8 +7,12 @@ use Rattle.ef_io.specs.Sink.{SinkView, IsAppended}
 use Rattle.ef_io.specs.declared.sink.Failed.{Failed}
 use Rattle.ef_io.specs.declared.status.Status.{Status}
 use Rattle.ef_io.specs.declared.status.Status.TheVariants as status
+use Rattle.ef_core.specs.Layout.{text_of}
+use Rattle.ef_core.specs.OfTable.{CoreModuleOf}
+use Rattle.ef_core.specs.Plain.{plain_module}
+use Rattle.ef_front.specs.declared.compiling.Lowered.{Lowered}
 use Rattle.ef_front.specs.declared.compiling.Compiled.{Compiled}
-use Rattle.ef_front.specs.declared.compiling.Compiled.TheVariants.{Text, Faulty}
+use Rattle.ef_front.specs.declared.compiling.Compiled.TheVariants.{Module, Faulty}
 use Rattle.ef_front.specs.declared.compiling.Stop.{Stop}
 use Rattle.ef_front.specs.declared.compiling.Stop.TheVariants.{ReadFault, NoMemory}
 use Rattle.ef_front.specs.declared.job.Job.{Job}
@@ -23,14 +27,22 @@ pub record HasSameCount (old new : SourcesView) : Type 0 where
   pub faults : new.faults ≡ old.faults
   pub failed : new.failed ≡ old.failed
 
+-- the text of a Core module over its names
+abbrev pub text_in : Lowered → List ℕ
+text_in l = text_of l.names (plain_module l.«module»)
+
+-- the names of the module are of its table
+abbrev pub IsNamed : Lowered → Type 0
+IsNamed l = CoreModuleOf l.names (plain_module l.«module»)
+
 -- what is made of a source
 abbrev pub IsCompiledText : List ℕ → Compiled → Type 0
-IsCompiledText source (Text text) = HasFaults source [] × IsTextFor source text
+IsCompiledText source (Module l) = HasFaults source [] × IsTextFor source (text_in l) × IsNamed l
 IsCompiledText source (Faulty faults) = HasFaults source faults × (faults ≢ [])
 
 -- what is made of the file at a path
 abbrev pub IsCompiled : Option Files → List ℕ → Compiled → Type 0
-IsCompiled files path (Text text) = MayBeWritten files path text
+IsCompiled files path (Module l) = MayBeWritten files path (text_in l) × IsNamed l
 IsCompiled files path (Faulty faults) = AreFaults files path faults × (faults ≢ [])
 
 -- a path that a run for this file tries: this path alone

@@ -4,7 +4,7 @@ use Rattle.std.specs.List.{flat_map}
 use Rattle.ef_base.specs.declared.fault.Fault.{Fault}
 use Rattle.ef_base.specs.Faults.{set_of}
 use Rattle.ef_base.specs.Positions.{first_position, place_at}
-use Rattle.ef_base.specs.Texts.{Texts, AllDiffer}
+use Rattle.ef_base.specs.Texts.{Texts, AllDiffer, Extends}
 use Rattle.ef_token.specs.declared.token.Token.{Token}
 use Rattle.ef_token.specs.Lexeme.{Each, is_white}
 use Rattle.ef_scan.specs.Scan.{ScansTo}
@@ -51,9 +51,11 @@ pub data HasFaults (source : List ℕ) (faults : List Fault) : Type 0 where
   not_built : (IsBlank source → ⊥) → ((all : Texts) (m : ModuleTree) → IsSource all source m → ⊥) → faults ≡ at_start 500 [] ∷ []
       → HasFaults source faults
 
--- a text that may be written for a source
+-- a text that may be written for a source; what the text adds to the names of the source stands in a later table
 pub record IsTextFor (source text : List ℕ) : Type 0 where
   pub all : Texts
   pub module_tree : ModuleTree
   pub spelled : IsSource all source module_tree
-  pub written : IsWritten all module_tree text
+  pub later : Texts
+  pub extends : Extends all later
+  pub written : IsWritten later module_tree text

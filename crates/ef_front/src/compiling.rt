@@ -1,17 +1,25 @@
-// From a file to its text or its faults.
+// From a file to its module in Core or its faults.
 ghost use Rattle.std.specs.Prelude.{◌≡◌, IfOk, IfErr, OnOk, IsUtf8};
-ghost use Rattle.ef_front.specs.Runs.{IsCompiled, IsCompiledText, HasStop, HasSameCount};
+ghost use Rattle.ef_front.specs.Runs.{IsCompiled, HasStop, HasSameCount};
 
-use crate::blank::is_blank;
-use crate::refused::{absent, blank, too_large};
-use ef_base::{Bytes, FaultList, NoMemory};
+use crate::refused::{absent, too_large};
+use crate::source::compile_text;
+use ef_base::{Bytes, FaultList, Names, NoMemory};
+use ef_core::CoreModule;
 use ef_io::{ReadRefusal, Sources};
 use std::alloc::Global;
 
-/// The text of a file without faults, or the faults.
+/// A module in Core, with the table of its names.
+#[derive(Drop)]
+pub struct Lowered {
+    pub names: Names,
+    pub module: CoreModule,
+}
+
+/// The module in Core of a file without faults, or the faults.
 #[derive(Drop)]
 pub enum Compiled {
-    Text(Bytes),
+    Module(Lowered),
     Faulty(FaultList),
 }
 
@@ -50,19 +58,9 @@ pub fn compile<S: Sources>(alloc: Global, sources: &mut S, path: &Bytes) -> Resu
         Ok(()) => Ok(compile_text(alloc, &source)?),
         Err(ReadRefusal::Absent) => Ok(Compiled::Faulty(absent(alloc, path)?)),
         Err(ReadRefusal::TooLarge) => Ok(Compiled::Faulty(too_large(alloc)?)),
-        Err(ReadRefusal::Failed) => Err(Stop::ReadFault(copied(alloc, path)?)),
+        Err(ReadRefusal::Failed) => Err(Stop::ReadFault(Bytes::from_slice(alloc, path.as_slice())?)),
         Err(ReadRefusal::NoMemory) => Err(Stop::NoMemory),
     }
-}
-
-// The text or the faults of a source.
-fn compile_text(alloc: Global, source: &[u8]) -> Result<Compiled, NoMemory>
-    ensures { IfOk result (IsCompiledText source.now) }
-{
-    if is_blank(source) {
-        return Ok(Compiled::Faulty(blank(alloc)?));
-    }
-    Err(NoMemory)
 }
 
 /// The bytes as text.
@@ -74,10 +72,4 @@ pub fn as_text(bytes: &Bytes) -> &str
         unreachable!()
     };
     text
-}
-
-fn copied(alloc: Global, bytes: &Bytes) -> Result<Bytes, NoMemory>
-    ensures { IfOk result (λ copy. copy ≡ bytes.now) }
-{
-    Ok(Bytes::from_vec(bytes.as_slice().to_vec(alloc)?))
 }

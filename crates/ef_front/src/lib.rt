@@ -8,6 +8,7 @@ mod faults;
 mod job;
 mod listing;
 mod refused;
+mod source;
 mod telling;
 mod top;
 mod writing;

@@ -11,7 +11,7 @@ pub fn absent(alloc: Global, path: &Bytes) -> Result<FaultList, NoMemory>
     ensures { IfOk result (λ faults. HasFaultsAt path.now None faults) }
 {
     let mut faults = FaultList::new(alloc);
-    let words = Bytes::from_vec(path.as_slice().to_vec(alloc)?);
+    let words = Bytes::from_slice(alloc, path.as_slice())?;
     faults.push(at_start(232, words))?;
     faults.push(at_start(308, Bytes::new(alloc)))?;
     Ok(faults)
@@ -33,6 +33,15 @@ pub fn blank(alloc: Global) -> Result<FaultList, NoMemory>
 {
     let mut faults = FaultList::new(alloc);
     faults.push(at_start(308, Bytes::new(alloc)))?;
+    Ok(faults)
+}
+
+/// The one fault of what is not built.
+pub fn not_built(alloc: Global) -> Result<FaultList, NoMemory>
+    ensures { IfOk result (λ faults. faults ≡ fault_at_start 500 [] ∷ []) }
+{
+    let mut faults = FaultList::new(alloc);
+    faults.push(at_start(500, Bytes::new(alloc)))?;
     Ok(faults)
 }
 

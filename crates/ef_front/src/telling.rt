@@ -3,11 +3,12 @@ ghost use Rattle.std.specs.Prelude.{◌≡◌, ◌≤◌, ◌++◌, [], true, fa
 ghost use Rattle.ef_io.specs.Sink.{Puts, HasWriteCause, Stays};
 ghost use Rattle.ef_io.specs.declared.status.Status.TheVariants as answer;
 ghost use Rattle.ef_front.specs.Lines.{memory_line, read_line, write_line};
-ghost use Rattle.ef_front.specs.Runs.{EndsWith, Tells, Delivers};
+ghost use Rattle.ef_front.specs.Runs.{EndsWith, Tells, Delivers, IsNamed, text_in};
 
-use crate::compiling::as_text;
+use crate::compiling::{Lowered, as_text};
 use ef_base::Bytes;
 use ef_io::{Failed, Output, Sink, Status, put};
+use ef_print::print;
 
 pub const USAGE_LINE: &[u8] =
     b"usage: erlfront [-I dir] [-D name[=term]] [--lib app=dir] [-o out] [--check|--core|--gen] file\n";
@@ -55,14 +56,22 @@ pub fn tell<G: Sink>(diag: &mut G, text: &[u8]) -> Result<(), Failed>
 }
 
 /// Creates the output and writes the text, or tells the write fault. It takes no memory.
-pub fn deliver<O: Output, G: Sink>(out: &Bytes, text: &[u8], output: &mut O, diag: &mut G) -> Status
+pub fn deliver<O: Output, G: Sink>(
+    out: &Bytes,
+    lowered: &Lowered,
+    output: &mut O,
+    diag: &mut G,
+) -> Status
     requires utf8 { IsUtf8 out.now }
+    requires named { IsNamed lowered.now }
     requires closed { (O.seen output.old).is_open ≡ false }
     requires is_open { (G.seen diag.old).is_open ≡ true }
     ensures stays { Stays (G.seen diag.old) (G.seen diag.new) }
-    ensures delivers { Delivers out.now text.now (O.seen output.old) (O.seen output.new) (G.seen diag.old) (G.seen diag.new) result }
+    ensures delivers { Delivers out.now (text_in lowered.now) (O.seen output.old) (O.seen output.new) (G.seen diag.old) (G.seen diag.new) result }
 {
-    if output.create(as_text(out)).is_err() || put(output, text).is_err() {
+    if output.create(as_text(out)).is_err()
+        || print(&lowered.names, &lowered.module, output).is_err()
+    {
         try_line(diag, WRITE_LINE);
         return Status::WriteFault;
     }

@@ -114,7 +114,7 @@ fn run<S: Sources, O: Output, G: Sink>(
     ensures stays { Stays (G.seen diag.old) (G.seen diag.new) }
 {
     match compile(alloc, sources, &job.path) {
-        Ok(Compiled::Text(text)) => deliver(&job.out, text.as_slice(), output, diag),
+        Ok(Compiled::Module(lowered)) => deliver(&job.out, &lowered, output, diag),
         Ok(Compiled::Faulty(faults)) => report(alloc, job, &faults, diag),
         Err(Stop::ReadFault(path)) => {
             try_read_line(diag, path.as_slice());

@@ -1,5 +1,5 @@
 -- The grammar of forms and of modules, as far as it is built.
-use Rattle.std.specs.Prelude.{ℕ, ◌^◌, ◌-◌, ◌≤◌, ◌≡◌, min, max, pos, List, [], ◌∷◌, ◌++◌, codes, length}
+use Rattle.std.specs.Prelude.{ℕ, ◌^◌, ◌-◌, ◌≤◌, ◌≡◌, min, pos, List, [], ◌∷◌, ◌++◌, codes, length}
 use Rattle.ef_base.specs.declared.name.Name.{Name}
 use Rattle.ef_base.specs.declared.fault.Place.{Place}
 use Rattle.ef_base.specs.Texts.{Texts, IsNameOf}
@@ -7,7 +7,7 @@ use Rattle.ef_token.specs.declared.token.TokenKind.TheVariants as kind
 use Rattle.ef_token.specs.declared.token.Token.{Token}
 use Rattle.ef_token.specs.declared.word.Sym.TheVariants as sym
 use Rattle.ef_forms.specs.declared.form.FunctionRef.{FunctionRef}
-use Rattle.ef_forms.specs.Tree.{Trees, Guards, Clauses, FunctionTree, FormTree, PlacedTree, ModuleTree, module_name, export, function, clause, no_guard, no_clauses, count}
+use Rattle.ef_forms.specs.Tree.{Clauses, FormTree, PlacedTree, ModuleTree, module_name, export, function, clause, no_clauses, count}
 use Rattle.ef_forms.specs.Built.{AreNarrowClauses, functions_in, most_arguments, most_functions}
 use Rattle.ef_parse.specs.Grammar.{token, symbol, start_of, SpellsClauses}
 
@@ -19,7 +19,7 @@ most_nesting = 128
 pub data SpellsReference : FunctionRef → List Token → Type 0 where
   a_reference : (n : Name) (arity : ℕ) (p q r : Place)
       → SpellsReference (record { place = p; name = n; arity = min arity (2 ^ 32 - 1) })
-          (token (kind.Atom n) p ∷ symbol sym.Slash q ∷ token (kind.Int (pos arity)) r ∷ [])
+      (token (kind.Atom n) p ∷ symbol sym.Slash q ∷ token (kind.Int (pos arity)) r ∷ [])
 
 -- one or more, with commas between
 pub data SpellsReferences : List FunctionRef → List Token → Type 0 where
@@ -41,13 +41,13 @@ arity_of (clause p ps g es cs) = count ps
 pub data SpellsForm (all : Texts) : FormTree → List Token → Type 0 where
   a_module_name : (m n : Name) (p q r s t u : Place) → IsNameOf all m (codes "module")
       → SpellsForm all (module_name n)
-          (symbol sym.Minus p ∷ token (kind.Atom m) q ∷ symbol sym.LeftParen r ∷ token (kind.Atom n) s ∷ symbol sym.RightParen t
-          ∷ token kind.Dot u ∷ [])
+      (symbol sym.Minus p ∷ token (kind.Atom m) q ∷ symbol sym.LeftParen r ∷ token (kind.Atom n) s ∷ symbol sym.RightParen t
+      ∷ token kind.Dot u ∷ [])
   an_export : (m : Name) (fs : List FunctionRef) (p q r s t u v : Place) (ts : List Token) → IsNameOf all m (codes "export")
       → SpellsReferenceList fs ts
       → SpellsForm all (export fs)
-          (symbol sym.Minus p ∷ token (kind.Atom m) q ∷ symbol sym.LeftParen r ∷ symbol sym.LeftBracket s
-          ∷ (ts ++ symbol sym.RightBracket t ∷ symbol sym.RightParen u ∷ token kind.Dot v ∷ []))
+      (symbol sym.Minus p ∷ token (kind.Atom m) q ∷ symbol sym.LeftParen r ∷ symbol sym.LeftBracket s
+      ∷ (ts ++ symbol sym.RightBracket t ∷ symbol sym.RightParen u ∷ token kind.Dot v ∷ []))
   a_function : (n : Name) (cs : Clauses) (d : ℕ) (p : Place) (ts : List Token) → SpellsClauses n cs d ts → d ≤ most_nesting
       → SpellsForm all (function (record { place = start_of ts; name = n; arity = arity_of cs; clauses = cs })) (ts ++ token kind.Dot p ∷ [])
 
@@ -67,21 +67,21 @@ SpellsForms all [] [] = Unit {0}
 SpellsForms all (f ∷ fs) (ts ∷ tss) = (f.place ≡ start_of ts) × SpellsForm all f.form ts × IsNarrowForm f.form × SpellsForms all fs tss
 SpellsForms all _ _ = ⊥
 
+abbrev pub IsExport : FormTree → Type 0
+IsExport (export refs) = Unit {0}
+IsExport _ = ⊥
+
+abbrev pub IsFunction : FormTree → Type 0
+IsFunction (function g) = Unit {0}
+IsFunction _ = ⊥
+
 abbrev pub AreFunctions : List PlacedTree → Type 0
 AreFunctions [] = Unit {0}
 AreFunctions (f ∷ fs) = IsFunction f.form × AreFunctions fs
-  where
-    IsFunction : FormTree → Type 0
-    IsFunction (function g) = Unit {0}
-    IsFunction _ = ⊥
 
 -- the module attribute, the one export attribute, and then functions
 abbrev pub IsInOrder : Name → List PlacedTree → Type 0
 IsInOrder name (f ∷ g ∷ fs) = (f.form ≡ module_name name) × IsExport g.form × AreFunctions fs
-  where
-    IsExport : FormTree → Type 0
-    IsExport (export refs) = Unit {0}
-    IsExport _ = ⊥
 IsInOrder name _ = ⊥
 
 -- the forms spell the module within the limits

@@ -1,1 +1,4 @@
 pub mod Forms
+pub mod Attribute
+pub mod Narrow
+pub mod Read

@@ -1,6 +1,15 @@
-//! The parser of expressions and clauses.
+//! Forms and modules: the tree that the tokens spell within the limits, or that there is none.
 #![tactic(auto)]
 
-pub fn placeholder() -> bool {
-    true
-}
+mod ahead;
+mod attribute;
+mod forms;
+mod function;
+mod modules;
+mod narrow;
+
+pub use forms::{FormRefusal, form};
+pub use modules::module;
+
+#[cfg(test)]
+mod tests;

@@ -1,5 +1,5 @@
 -- What a run's outcome says of the tokens.
-use Rattle.std.proofs.Common.{◌≡◌, ℕ, ◌+◌, ◌≤◌, ◌<◌, max, Bool, true, false, List, ◌∷◌, ◌++◌, refl, sym, ap, ◌∙◌, subst, arith, cond, ⊎_elim, inl, inr, Vec, Some}
+use Rattle.std.proofs.Common.{◌≡◌, ℕ, ◌≤◌, ◌<◌, max, Bool, true, false, List, refl, sym, ◌∙◌, subst, arith, cond, ⊎_elim, inl, inr, Vec, Some}
 use Rattle.std.specs.Prelude.{nat_le, ◌⊎◌}
 use Rattle.std.proofs.lemmas.Bool.Decides.{nat_tests}
 use Rattle.std.specs.declared.alloc.Global.{Global}
@@ -16,7 +16,7 @@ use Rattle.ef_token.specs.TokenForm.{TokensOf}
 use Rattle.ef_forms.specs.Tree.{Tree, Trees, Clauses, clause, no_guard, no_clauses}
 use Rattle.ef_forms.specs.OfTable.{TreeOf, ClausesOf}
 use Rattle.ef_parse.specs.Grammar.{start_of, Spells, SpellsClauses}
-use Rattle.ef_parse.specs.Machine.{Part, Parts, built, deep, built_all, deep_all, Need, NeedName, Outcome, Expression, Clause, Refused, part_of, items_of, Ends}
+use Rattle.ef_parse.specs.Machine.{Parts, built, deep, built_all, deep_all, Need, NeedName, Outcome, Expression, Clause, part_of, Ends}
 use Rattle.ef_parse.specs.Reads.{fault_of, ReadsExpression, IsNoExpression, IsDeepExpression, IsExpressionRefused, ReadsClauses, AreNoClauses, AreDeepClauses, AreClausesRefused}
 use Rattle.ef_parse.proofs.Complete.{expression_read, alike}
 use Rattle.ef_parse.proofs.Sound.{expression_spelled, clause_spelled}

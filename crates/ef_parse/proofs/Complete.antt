@@ -1,14 +1,13 @@
 -- What is spelled is read.
-use Rattle.std.proofs.Common.{◌≡◌, ℕ, suc, ◌+◌, ◌≤◌, ◌<◌, max, Bool, true, false, List, [], ◌∷◌, ◌++◌, refl, sym, ap, ◌∙◌, subst, arith, append_assoc, append-nil, cond}
+use Rattle.std.proofs.Common.{◌≡◌, ℕ, suc, ◌≤◌, max, List, [], ◌∷◌, ◌++◌, refl, sym, ap, ◌∙◌, subst, arith, append_assoc, append-nil, cond}
 use Rattle.ef_base.specs.declared.fault.Place.{Place}
 use Rattle.ef_base.specs.declared.name.Name.{Name}
 use Rattle.ef_token.specs.declared.token.Token.{Token}
 use Rattle.ef_token.specs.declared.token.TokenKind.TheVariants as kind
 use Rattle.ef_token.specs.declared.word.Sym.TheVariants as sy
-use Rattle.ef_forms.specs.Tree.{Tree, Trees, Clauses, tree, int, atom, var, call, remote, end, more, no_guard, no_clauses, clause}
-use Rattle.ef_parse.specs.declared.ahead.Ahead.{Ahead}
+use Rattle.ef_forms.specs.Tree.{Tree, Trees, tree, call, remote, end, more}
 use Rattle.ef_parse.specs.declared.ahead.Ahead.TheVariants as ahead
-use Rattle.ef_parse.specs.Grammar.{token, symbol, start_of, call_level, max_level, Spells, SpellsAll, SpellsSome, SpellsClauses, a_variable, an_atom, an_integer, parentheses, a_call, a_remote, nothing, some, one, and_more, one_clause}
+use Rattle.ef_parse.specs.Grammar.{token, symbol, start_of, call_level, max_level, Spells, SpellsAll, SpellsSome, a_variable, an_atom, an_integer, parentheses, a_call, a_remote, nothing, some, one, and_more}
 use Rattle.ef_parse.specs.Machine.{Part, Parts, Opener, call_of, remote_of, head_at, body_of, Frame, InParens, AfterColon, InList, Mode, Need, Have, NeedName, NeedHead, NeedArrow, Outcome, Expression, Clause, Refused, Move, Take, Over, State, Next, Go, Done, st, apply, look, put_in, add, is_none, part_of, items_of, none, ended, begin, close, opened, qualified, move, step, Steps, here, then_on, Ends}
 use Rattle.ef_parse.proofs.Parts.{none_is, parens_is, called_is, called_in_is, put_in_is}
 

@@ -1,5 +1,5 @@
 -- Tokens whose names are of a table spell trees whose names are.
-use Rattle.std.proofs.Common.{◌≡◌, ℕ, List, [], ◌∷◌, ◌++◌}
+use Rattle.std.proofs.Common.{ℕ, List, [], ◌∷◌, ◌++◌}
 use Rattle.ef_base.specs.Texts.{Texts}
 use Rattle.ef_base.specs.declared.name.Name.{Name}
 use Rattle.ef_token.specs.declared.token.Token.{Token}
@@ -9,11 +9,11 @@ use Rattle.ef_forms.specs.OfTable.{TreeOf, TreesOf, ClausesOf}
 use Rattle.ef_parse.specs.Grammar.{Spells, SpellsAll, SpellsSome, SpellsClauses, max_level, a_variable, an_atom, an_integer, parentheses, a_call, a_remote, nothing, some, one, and_more, one_clause}
 
 module _ (all : Texts) where
-  first : (ts us : List Token) → TokensOf all (ts ++ us) → TokensOf all ts
+  pub first : (ts us : List Token) → TokensOf all (ts ++ us) → TokensOf all ts
   first [] us h = tt
   first (t ∷ ts) us h = (h.0, first ts us h.1)
 
-  second : (ts us : List Token) → TokensOf all (ts ++ us) → TokensOf all us
+  pub second : (ts us : List Token) → TokensOf all (ts ++ us) → TokensOf all us
   second [] us h = h
   second (t ∷ ts) us h = second ts us h.1
 

@@ -1,13 +1,11 @@
 -- Tokens spell one tree.
-use Rattle.std.proofs.Common.{◌≡◌, ℕ, ◌+◌, ◌≤◌, ◌<◌, max, List, ◌∷◌, ◌++◌, refl, sym, ap, ◌∙◌, arith}
+use Rattle.std.proofs.Common.{◌≡◌, ℕ, max, List, refl, sym, ap, ◌∙◌, arith}
 use Rattle.ef_base.specs.declared.fault.Place.{Place}
 use Rattle.ef_base.specs.declared.name.Name.{Name}
 use Rattle.ef_token.specs.declared.token.Token.{Token}
-use Rattle.ef_token.specs.declared.token.TokenKind.TheVariants as kind
-use Rattle.ef_token.specs.declared.word.Sym.TheVariants as sy
 use Rattle.ef_forms.specs.Tree.{Tree, Trees, Clauses, clause, no_guard, no_clauses}
-use Rattle.ef_parse.specs.Grammar.{token, symbol, start_of, Spells, SpellsAll, SpellsSome, SpellsClauses, one_clause}
-use Rattle.ef_parse.specs.Machine.{Part, Parts, built, built_all, Need, NeedName, Outcome, Expression, Clause, part_of, items_of, Ends}
+use Rattle.ef_parse.specs.Grammar.{start_of, Spells, SpellsClauses, one_clause}
+use Rattle.ef_parse.specs.Machine.{built, built_all, Need, NeedName, Expression, Clause, items_of, Ends}
 use Rattle.ef_parse.proofs.Parts.{part_small, items_small}
 use Rattle.ef_parse.proofs.Complete.{expression_read, clause_read, alike}
 

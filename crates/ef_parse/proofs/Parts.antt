@@ -1,9 +1,9 @@
 -- How trees and lists of trees of any nesting stand as parts, under any limit.
-use Rattle.std.proofs.Common.{◌≡◌, ℕ, suc, ◌+◌, ◌≤◌, ◌<◌, max, Bool, true, false, refl, sym, ap, ◌∙◌, arith, cond, ⊎_elim}
+use Rattle.std.proofs.Common.{◌≡◌, ℕ, suc, ◌≤◌, ◌<◌, max, true, false, refl, sym, ap, ◌∙◌, arith, cond, ⊎_elim}
 use Rattle.std.specs.Prelude.{nat_le, ◌⊎◌}
 use Rattle.std.proofs.lemmas.Bool.Decides.{nat_tests}
 use Rattle.ef_base.specs.declared.fault.Place.{Place}
-use Rattle.ef_forms.specs.Tree.{Tree, Trees, tree, call, remote, end, more}
+use Rattle.ef_forms.specs.Tree.{Tree, Trees, tree, call, remote, end}
 use Rattle.ef_parse.specs.Machine.{Part, Parts, built, deep, built_all, deep_all, part_of, items_of, parenthesised, called, called_in, put_in, add, none, is_none}
 
 pub le_true : (a b : ℕ) → a ≤ b → nat_le a b ≡ true

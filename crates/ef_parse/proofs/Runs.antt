@@ -1,12 +1,11 @@
 -- A run of the parser is a run of the machine.
-use Rattle.std.proofs.Common.{◌≡◌, ℕ, suc, zero, ◌+◌, ◌≤◌, ◌<◌, List, [], ◌∷◌, refl, sym, ap, ◌∙◌, subst, arith, drop, length, Bool, true, false}
+use Rattle.std.proofs.Common.{◌≡◌, ℕ, suc, zero, ◌+◌, ◌≤◌, ◌<◌, List, [], ◌∷◌, refl, sym, ap, ◌∙◌, arith, drop, length}
 use native.Mathlib.Numerals.{unary_clauses}
 use Rattle.ef_base.specs.declared.fault.Place.{Place}
 use Rattle.ef_token.specs.declared.token.Token.{Token}
-use Rattle.ef_parse.specs.declared.ahead.Ahead.{Ahead}
 use Rattle.ef_parse.specs.declared.ahead.Ahead.TheVariants as ahead
 use Rattle.ef_parse.specs.Grammar.{start_of}
-use Rattle.ef_parse.specs.Machine.{Part, Opener, call_of, remote_of, head_at, body_of, Frame, InParens, AfterColon, InList, Mode, Need, Have, NeedName, NeedHead, NeedArrow, Outcome, Move, Take, Over, State, Go, Done, st, tail, apply, look, move, step, Steps, here, then_on}
+use Rattle.ef_parse.specs.Machine.{call_of, remote_of, head_at, body_of, Frame, InParens, AfterColon, InList, Mode, Need, Have, NeedName, NeedHead, NeedArrow, Take, State, Go, st, tail, apply, look, move, Steps, here, then_on}
 use Rattle.ef_parse.proofs.Complete.{after}
 
 module _ (limit : ℕ) where

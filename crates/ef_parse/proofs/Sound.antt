@@ -1,5 +1,5 @@
 -- What is read is spelled: the stack spells what has been taken.
-use Rattle.std.proofs.Common.{◌≡◌, ℕ, suc, ◌+◌, ◌≤◌, ◌<◌, max, Bool, true, false, List, [], ◌∷◌, ◌++◌, refl, sym, ap, ◌∙◌, subst, arith, append_assoc, append-nil, cond}
+use Rattle.std.proofs.Common.{◌≡◌, ℕ, suc, ◌≤◌, max, Bool, true, false, List, [], ◌∷◌, ◌++◌, refl, sym, ap, ◌∙◌, subst, arith, append_assoc, append-nil, cond}
 use Rattle.std.specs.Prelude.{nat_le}
 use Rattle.std.proofs.lemmas.Bool.Decides.{nat_tests}
 use Rattle.ef_base.specs.declared.fault.Place.{Place}
@@ -9,13 +9,13 @@ use Rattle.ef_token.specs.declared.token.TokenKind.{TokenKind}
 use Rattle.ef_token.specs.declared.token.TokenKind.TheVariants as kind
 use Rattle.ef_token.specs.declared.word.Sym.{Sym}
 use Rattle.ef_token.specs.declared.word.Sym.TheVariants as sy
-use Rattle.ef_forms.specs.Tree.{Tree, Trees, Clauses, tree, int, atom, var, call, remote, end, more, no_guard, no_clauses, clause}
+use Rattle.ef_forms.specs.Tree.{Tree, Trees, tree, int, atom, var, call, remote, end, more, no_guard, no_clauses, clause}
 use Rattle.ef_parse.specs.declared.ahead.Ahead.{Ahead}
 use Rattle.ef_parse.specs.declared.ahead.Ahead.TheVariants as ahead
 use Rattle.ef_parse.specs.Grammar.{token, symbol, start_of, call_level, max_level, Spells, SpellsAll, SpellsSome, SpellsClauses, a_variable, an_atom, an_integer, parentheses, a_call, a_remote, nothing, some, one, and_more, one_clause}
 use Rattle.ef_parse.specs.Machine.{Part, Parts, deep_all, built_all, Opener, call_of, remote_of, head_at, body_of, Frame, InParens, AfterColon, InList, Mode, Need, Have, NeedName, NeedHead, NeedArrow, Outcome, Expression, Clause, Refused, Move, Take, Over, State, Next, Go, Done, st, tail, apply, look, seen, seen_symbol, put_in, add, is_none, part_of, items_of, none, ended, ended_empty, finished, begin, listed, unwrapped, whole, close, opened, qualified, go_on, named, headed, pointed, move, step, Steps, here, then_on, Ends}
-use Rattle.ef_parse.proofs.Parts.{none_is, parens_is, called_is, called_in_is, put_in_is, split, items_small, items_deep}
-use Rattle.ef_parse.proofs.Complete.{max_regroup, zero_max, Begun, begun, start_is}
+use Rattle.ef_parse.proofs.Parts.{parens_is, called_is, called_in_is, put_in_is}
+use Rattle.ef_parse.proofs.Complete.{max_regroup, zero_max, begun, start_is}
 
 -- ---- the token that is seen
 

@@ -2,7 +2,6 @@
 use Rattle.std.proofs.Common.{◌≡◌, List, [], ◌∷◌, ◌++◌, refl, ap, ◌∙◌, map, reverse}
 use Rattle.std.proofs.lemmas.List.{reverse-append}
 use Rattle.ef_parse.specs.declared.frame.Frame.{Frame as Kept}
-use Rattle.ef_parse.specs.Machine.{Frame}
 use Rattle.ef_parse.specs.Shown.{frame, frames}
 
 map_more : (fs : List Kept) (f : Kept) → map frame (fs ++ f ∷ []) ≡ map frame fs ++ frame f ∷ []

@@ -2,7 +2,7 @@
 -- `Spells e k d ts` says that the tokens spell the tree, at this level and with this nesting. A level is a number, and
 -- tighter levels are greater. A tree stands at the first token of its spelling; parentheses round a whole tree are no
 -- part of it.
-use Rattle.std.specs.Prelude.{ℕ, ℤ, suc, max, ◌≡◌, List, [], ◌∷◌, ◌++◌}
+use Rattle.std.specs.Prelude.{ℕ, ℤ, suc, max, List, [], ◌∷◌, ◌++◌}
 use Rattle.ef_base.specs.declared.name.Name.{Name}
 use Rattle.ef_base.specs.declared.fault.Place.{Place}
 use Rattle.ef_token.specs.declared.token.TokenKind.{TokenKind}

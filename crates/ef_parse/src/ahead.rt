@@ -71,3 +71,10 @@ pub fn place_at(tokens: &[Token], at: usize) -> Place
         },
     }
 }
+
+/// Where the first token stands, and the start of the first file if there is none.
+pub fn start_of(tokens: &[Token]) -> Place
+    ensures { result ≡ start_of tokens.now }
+{
+    place_at(tokens, 0)
+}

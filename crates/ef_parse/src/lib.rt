@@ -7,6 +7,7 @@ mod parse;
 mod part;
 mod step;
 
+pub use ahead::start_of;
 pub use parse::{clauses, expression};
 
 #[cfg(test)]

@@ -12,7 +12,7 @@ ghost use Rattle.ef_parse.specs.Machine.{Ends};
 ghost use Rattle.ef_parse.specs.Reads.{ReadsExpression, IsExpressionRefused, ReadsClauses, AreClausesRefused, fault_of};
 ghost use Rattle.ef_parse.specs.Shown.{mode, outcome, parts, MakesClause};
 
-use crate::ahead::{look, place_at};
+use crate::ahead::{look, place_at, start_of};
 use crate::frame::{Advance, Mode, Outcome};
 use crate::part::{Part, Parts};
 use crate::step::step;
@@ -98,7 +98,7 @@ fn fault(alloc: Global, code: u16, tokens: &[Token]) -> Refusal
     ensures { result ≡ Faulty (fault_of code tokens.now) }
 {
     Refusal::Faulty(Fault {
-        place: place_at(tokens, 0),
+        place: start_of(tokens),
         code,
         words: Bytes::new(alloc),
     })

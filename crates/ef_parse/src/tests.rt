@@ -38,7 +38,7 @@ fn tokens(alloc: Global, text: &str) -> Result<Vec<Token>, AllocError> {
             kind: kind_of(letter),
             place,
         })?;
-        column += 1;
+        column = column.wrapping_add(1);
     }
     Ok(tokens)
 }

@@ -4,21 +4,12 @@ use Rattle.ef_base.specs.declared.fault.Fault.{Fault}
 use Rattle.ef_base.specs.Texts.{Texts}
 use Rattle.ef_base.specs.Positions.{first_position, place_at}
 use Rattle.ef_base.specs.Cut.{Placed}
+pub use Rattle.ef_token.specs.TokenForm.{IsForm, AreForms}
 use Rattle.ef_token.specs.Lexeme.{Lexeme, CutsInto, AreTokens}
 use Rattle.ef_token.specs.declared.token.TokenKind.TheVariants as kind
 use Rattle.ef_token.specs.declared.token.Token.{Token}
 use Rattle.ef_token.specs.declared.token.ScannedForm.{ScannedForm}
 use Rattle.ef_token.specs.declared.token.ScannedForm.TheVariants.{Tokens, Faulty}
-
--- a form ends with a full stop, and has no other
-abbrev pub IsForm : List Token → Type 0
-IsForm [] = ⊥
-IsForm (t ∷ []) = t.kind ≡ kind.Dot
-IsForm (t ∷ u ∷ ts) = (t.kind ≡ kind.Dot → ⊥) × IsForm (u ∷ ts)
-
-abbrev pub AreForms : List (List Token) → Type 0
-AreForms [] = Unit {0}
-AreForms (f ∷ fs) = IsForm f × AreForms fs
 
 abbrev pub joined : List (List Token) → List Token
 joined [] = []

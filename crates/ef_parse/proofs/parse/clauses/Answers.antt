@@ -1,5 +1,5 @@
-use Rattle.std.proofs.Common.{◌≡◌, ◌∙◌, ap, subst}
-use Rattle.ef_parse.specs.Machine.{Ends, NeedName, Clause}
+use Rattle.std.proofs.Common.{ap, subst}
+use Rattle.ef_parse.specs.Machine.{Ends, NeedName}
 use Rattle.ef_parse.specs.Shown.{outcome, parts, MakesClause}
 use Rattle.ef_parse.proofs.Answered.{clauses_made, clauses_alone, clauses_table, clauses_syntax, clauses_too_deep}
 use Rattle.ef_parse.proofs.parse.clauses.Goals as goal

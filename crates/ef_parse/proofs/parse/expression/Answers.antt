@@ -1,9 +1,6 @@
-use Rattle.std.proofs.Common.{◌≡◌, ◌∙◌, ap, subst}
-use Rattle.ef_parse.specs.declared.frame.Outcome.TheVariants as outcome_is
+use Rattle.std.proofs.Common.{◌∙◌, ap, subst}
 use Rattle.ef_parse.specs.Machine.{Ends, Need, Expression}
 use Rattle.ef_parse.specs.Shown.{outcome, part}
-use Rattle.ef_parse.specs.Reads.{ReadsExpression}
-use Rattle.ef_forms.specs.Plain.{plain}
 use Rattle.ef_parse.proofs.Answered.{expression_built, expression_alone, expression_of, expression_syntax, expression_too_deep}
 use Rattle.ef_parse.proofs.parse.expression.Goals as goal
 

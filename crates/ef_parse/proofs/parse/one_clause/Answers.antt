@@ -1,7 +1,5 @@
-use Rattle.std.proofs.Common.{◌≡◌, List, [], ◌∷◌, ◌++◌, ap, ◌∙◌, Vec}
-use Rattle.std.specs.declared.alloc.Global.{Global}
+use Rattle.std.proofs.Common.{◌≡◌, List, [], ◌∷◌, ◌++◌, ap, ◌∙◌}
 use Rattle.ef_forms.specs.declared.expr.Clause.{Clause}
-use Rattle.ef_forms.specs.declared.expr.Expr.{Expr}
 use Rattle.ef_forms.specs.Plain.{plain_all, plain_guard, plain_clauses}
 use Rattle.ef_forms.specs.Tree.{clause, no_guard, no_clauses}
 use Rattle.ef_parse.specs.Shown.{parts}

@@ -1,11 +1,7 @@
-use Rattle.std.proofs.Common.{◌≡◌, ◌≤◌, ◌+◌, length, sym, ap, ◌∙◌, subst, arith, drop}
-use Rattle.ef_base.specs.declared.fault.Place.{Place}
-use Rattle.ef_parse.specs.declared.ahead.Ahead.{Ahead}
-use Rattle.ef_parse.specs.declared.frame.Advance.{Advance}
-use Rattle.ef_parse.specs.declared.frame.Advance.TheVariants as advance
+use Rattle.std.proofs.Common.{◌≡◌, sym, ap, ◌∙◌, subst, arith, drop}
 use Rattle.ef_parse.specs.Grammar.{start_of}
-use Rattle.ef_parse.specs.Machine.{Move, Steps, here, st, Over, Take, Done, apply, look, move}
-use Rattle.ef_parse.specs.Shown.{frames, mode, outcome, done}
+use Rattle.ef_parse.specs.Machine.{Steps, here, st, Take, apply, look, move}
+use Rattle.ef_parse.specs.Shown.{frames, mode, done}
 use Rattle.ef_parse.proofs.Runs.{more_left, took}
 use Rattle.ef_parse.proofs.parse.run.Goals as goal
 

@@ -1,4 +1,4 @@
-use Rattle.std.proofs.Common.{ℕ, ◌-◌, ◌≤◌, [], length, drop}
+use Rattle.std.proofs.Common.{◌-◌, ◌≤◌, [], length, drop}
 use Rattle.ef_parse.specs.Machine.{Steps, st}
 use Rattle.ef_parse.specs.Shown.{mode, frames}
 use Rattle.ef_parse.proofs.parse.run.Given as goal

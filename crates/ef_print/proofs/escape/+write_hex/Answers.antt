@@ -1,5 +1,5 @@
 use Rattle.std.proofs.Common.{sym, ap, ◌∷◌, [], ◌++◌, arith, ◌∙◌, false, ◌/◌}
-use Rattle.std.specs.Fmt.{digits, digit_glyph}
+use Rattle.std.specs.Fmt.{digits}
 use Rattle.std.proofs.lemmas.Fmt.{hex_one_digit}
 use Rattle.ef_print.proofs.Hex.{last_digit}
 use Rattle.ef_print.proofs.Written.{appends_as, appends_then}

@@ -1,4 +1,3 @@
-use Rattle.std.proofs.Common.{arith}
 use Rattle.ef_print.proofs.Lists.{many_vars}
 use Rattle.ef_print.proofs.Written.{prints_as, prints_then}
 use Rattle.ef_print.proofs.expr.print_vars.Goals as goal

@@ -1,0 +1,164 @@
+-- Trees all of whose names have a property, which they take from the tokens that spell them.
+use Rattle.std.proofs.Common.{ℕ, List, [], ◌∷◌, ◌++◌, map, subst, sym}
+use Rattle.ef_base.specs.declared.name.Name.{Name}
+use Rattle.ef_token.specs.declared.token.TokenKind.{TokenKind}
+use Rattle.ef_token.specs.declared.token.TokenKind.TheVariants as kind
+use Rattle.ef_token.specs.declared.token.Token.{Token}
+use Rattle.ef_scan.specs.Scan.{joined}
+use Rattle.ef_forms.specs.declared.form.FunctionRef.{FunctionRef}
+use Rattle.ef_forms.specs.declared.tables.FunctionName.{FunctionName}
+use Rattle.ef_forms.specs.Tree.{Tree, Shape, Trees, Clauses, FunctionTree, FormTree, PlacedTree, tree, int, atom, var, call, remote, end, more, no_clauses, clause, module_name, export, function}
+use Rattle.ef_forms.specs.Built.{Each, AreVariables, name_of, key_of, functions_of, functions_in, exports_of, exports_in, defined_in}
+use Rattle.ef_parse.specs.Grammar.{Spells, SpellsAll, SpellsSome, SpellsClauses, max_level, a_variable, an_atom, an_integer, parentheses, a_call, a_remote, nothing, some, one, and_more, one_clause}
+use Rattle.ef_base.specs.Texts.{Texts}
+use Rattle.ef_module.specs.Forms.{SpellsReference, SpellsReferences, SpellsReferenceList, a_reference, SpellsForm, SpellsForms, a_module_name, an_export, a_function}
+use Rattle.ef_module.specs.Forms as forms
+
+module _ (Q : Name → Type 0) where
+  abbrev pub KindOf : TokenKind → Type 0
+  KindOf (kind.Atom n) = Q n
+  KindOf (kind.Var n) = Q n
+  KindOf _ = Unit {0}
+
+  abbrev pub TokensOf : List Token → Type 0
+  TokensOf [] = Unit {0}
+  TokensOf (t ∷ ts) = KindOf t.kind × TokensOf ts
+
+  abbrev mutual
+    pub TreeOf : Tree → Type 0
+    TreeOf (tree p e) = ShapeOf e
+
+    pub ShapeOf : Shape → Type 0
+    ShapeOf (int i) = Unit {0}
+    ShapeOf (atom n) = Q n
+    ShapeOf (var n) = Q n
+    ShapeOf (call f es) = TreeOf f × TreesOf es
+    ShapeOf (remote m f es) = TreeOf m × TreeOf f × TreesOf es
+
+    pub TreesOf : Trees → Type 0
+    TreesOf end = Unit {0}
+    TreesOf (more e es) = TreeOf e × TreesOf es
+
+  abbrev pub ClausesOf : Clauses → Type 0
+  ClausesOf no_clauses = Unit {0}
+  ClausesOf (clause p ps g body cs) = TreesOf ps × TreesOf body × ClausesOf cs
+
+  abbrev pub FunctionOf : FunctionTree → Type 0
+  FunctionOf f = Q f.name × ClausesOf f.clauses
+
+  abbrev pub ReferencesOf : List FunctionRef → Type 0
+  ReferencesOf [] = Unit {0}
+  ReferencesOf (f ∷ fs) = Q f.name × ReferencesOf fs
+
+  abbrev pub FormOf : FormTree → Type 0
+  FormOf (module_name n) = Q n
+  FormOf (export fs) = ReferencesOf fs
+  FormOf (function f) = FunctionOf f
+
+  abbrev pub FormsOf : List PlacedTree → Type 0
+  FormsOf [] = Unit {0}
+  FormsOf (f ∷ fs) = FormOf f.form × FormsOf fs
+
+  -- ---- from tokens to trees
+
+  pub first : (ts us : List Token) → TokensOf (ts ++ us) → TokensOf ts
+  first [] us h = tt
+  first (t ∷ ts) us h = (h.0, first ts us h.1)
+
+  pub second : (ts us : List Token) → TokensOf (ts ++ us) → TokensOf us
+  second [] us h = h
+  second (t ∷ ts) us h = second ts us h.1
+
+  mutual
+    tree_of : (e : Tree) (k d : ℕ) (ts : List Token) → Spells e k d ts → TokensOf ts → TreeOf e
+    tree_of e k d ts (a_variable n p) h = h.0
+    tree_of e k d ts (an_atom n p) h = h.0
+    tree_of e k d ts (an_integer i p) h = tt
+    tree_of e k d ts (parentheses e' k' d' p q es s) h = tree_of e' k' d' es s (first es _ h.1)
+    tree_of e k d ts (a_call f args d' g p q fs xs s ss) h =
+        (tree_of f max_level d' fs s (first fs _ h), trees_of args g xs ss (first xs _ (second fs _ h).1))
+    tree_of e k d ts (a_remote m f args c d' g p q r ms fs xs s s' ss) h =
+        (tree_of m max_level c ms s (first ms _ h), tree_of f max_level d' fs s' (first fs _ (second ms _ h).1), trees_of args g xs ss (first xs _ (second fs _ (second ms _ h).1).1))
+
+    trees_of : (es : Trees) (d : ℕ) (ts : List Token) → SpellsAll es d ts → TokensOf ts → TreesOf es
+    trees_of es d ts nothing h = tt
+    trees_of es d ts (some es' d' ts' s) h = some_of es' d' ts' s h
+
+    some_of : (es : Trees) (d : ℕ) (ts : List Token) → SpellsSome es d ts → TokensOf ts → TreesOf es
+    some_of es d ts (one e k d' ts' s) h = (tree_of e k d' ts' s h, tt)
+    some_of es d ts (and_more e es' k d' g p ts' us s ss) h =
+        (tree_of e k d' ts' s (first ts' _ h), some_of es' g us ss (second ts' _ h).1)
+
+  clauses_of : (n : Name) (cs : Clauses) (d : ℕ) (ts : List Token) → SpellsClauses n cs d ts → TokensOf ts → Q n × ClausesOf cs
+  clauses_of n cs d ts (one_clause n' ps es c g p q r s xs ys ss ss') h =
+      (h.0, (trees_of ps c xs ss (first xs _ h.1.1), some_of es g ys ss' (second xs _ h.1.1).1.1, tt))
+
+  reference_of : (f : FunctionRef) (ts : List Token) → SpellsReference f ts → TokensOf ts → Q f.name
+  reference_of f ts (a_reference n arity p q u) h = h.0
+
+  references_of : (fs : List FunctionRef) (ts : List Token) → SpellsReferences fs ts → TokensOf ts → ReferencesOf fs
+  references_of fs ts (forms.one f ts' s) h = (reference_of f ts' s h, tt)
+  references_of fs ts (forms.and_more f fs' p ts' us s ss) h = (reference_of f ts' s (first ts' _ h), references_of fs' us ss (second ts' _ h).1)
+
+  reference_list_of : (fs : List FunctionRef) (ts : List Token) → SpellsReferenceList fs ts → TokensOf ts → ReferencesOf fs
+  reference_list_of fs ts forms.nothing h = tt
+  reference_list_of fs ts (forms.some fs' ts' s) h = references_of fs' ts' s h
+
+  form_of : (all : Texts) (f : FormTree) (ts : List Token) → SpellsForm all f ts → TokensOf ts → FormOf f
+  form_of all f ts (a_module_name m n p q r s t u is) h = h.1.1.1.0
+  form_of all f ts (an_export m fs p q r s t u v ts' is ss) h = reference_list_of fs ts' ss (first ts' _ h.1.1.1.1)
+  form_of all f ts (a_function n cs d p ts' s small) h = clauses_of n cs d ts' s (first ts' _ h)
+
+  pub forms_of : (all : Texts) (fs : List PlacedTree) (tss : List (List Token)) → SpellsForms all fs tss → TokensOf (joined tss) → FormsOf fs
+  forms_of all [] [] s h = tt
+  forms_of all [] (ts ∷ tss) s h = absurd s
+  forms_of all (f ∷ fs) [] s h = absurd s
+  forms_of all (f ∷ fs) (ts ∷ tss) s h = (form_of all f.form ts s.1 (first ts (joined tss) h), forms_of all fs tss s.3 (second ts (joined tss) h))
+
+  -- ---- from the forms to what they define and export
+
+  functions_of_form : (f : FormTree) → FormOf f → Each FunctionOf (functions_of f)
+  functions_of_form (module_name n) h = tt
+  functions_of_form (export fs) h = tt
+  functions_of_form (function g) h = (h, tt)
+
+  each_append : {A : Type 0} (P : A → Type 0) (xs ys : List A) → Each P xs → Each P ys → Each P (xs ++ ys)
+  each_append P [] ys h k = k
+  each_append P (x ∷ xs) ys h k = (h.0, each_append P xs ys h.1 k)
+
+  pub all_functions : (fs : List PlacedTree) → FormsOf fs → Each FunctionOf (functions_in fs)
+  all_functions [] h = tt
+  all_functions (f ∷ fs) h = each_append FunctionOf (functions_of f.form) (functions_in fs) (functions_of_form f.form h.0) (all_functions fs h.1)
+
+  abbrev pub KeyOf : FunctionName → Type 0
+  KeyOf f = Q f.name
+
+  keys : (fs : List FunctionTree) → Each FunctionOf fs → Each KeyOf (map key_of fs)
+  keys [] h = tt
+  keys (f ∷ fs) h = (h.0.0, keys fs h.1)
+
+  pub all_defined : (fs : List PlacedTree) → FormsOf fs → Each KeyOf (defined_in fs)
+  all_defined fs h = keys (functions_in fs) (all_functions fs h)
+
+  names_of : (fs : List FunctionRef) → ReferencesOf fs → Each KeyOf (map name_of fs)
+  names_of [] h = tt
+  names_of (f ∷ fs) h = (h.0, names_of fs h.1)
+
+  exports_of_form : (f : FormTree) → FormOf f → Each KeyOf (exports_of f)
+  exports_of_form (module_name n) h = tt
+  exports_of_form (export fs) h = names_of fs h
+  exports_of_form (function g) h = tt
+
+  pub all_exports : (fs : List PlacedTree) → FormsOf fs → Each KeyOf (exports_in fs)
+  all_exports [] h = tt
+  all_exports (f ∷ fs) h = each_append KeyOf (exports_of f.form) (exports_in fs) (exports_of_form f.form h.0) (all_exports fs h.1)
+
+  pub variables : (es : Trees) (ns : List Name) → AreVariables es ns → TreesOf es → Each Q ns
+  variables end [] v h = tt
+  variables end (n ∷ ns) v h = absurd v
+  variables (more (tree p (var n)) es) (m ∷ ns) v h = (subst Q (sym v.0) h.0, variables es ns v.1 h.1)
+  variables (more (tree p (var n)) es) [] v h = absurd v
+  variables (more (tree p (int i)) es) ns v h = absurd v
+  variables (more (tree p (atom n)) es) ns v h = absurd v
+  variables (more (tree p (call f xs)) es) ns v h = absurd v
+  variables (more (tree p (remote m f xs)) es) ns v h = absurd v

@@ -1,0 +1,162 @@
+-- A module under other names of the same texts has the same faults.
+use Rattle.std.proofs.Common.{◌≡◌, ◌==◌, ◌||◌, ℕ, Bool, true, false, if◌then◌else◌, List, [], ◌∷◌, ◌++◌, refl, sym, ap, ap₂, ◌∙◌, map}
+use Rattle.std.specs.List.{flat_map}
+use Rattle.std.proofs.lemmas.Bool.Decides.{Decides-eqb}
+use Rattle.ef_base.specs.declared.fault.Place.{Place}
+use Rattle.ef_base.specs.declared.fault.Fault.{Fault}
+use Rattle.ef_base.specs.declared.name.Name.{Name}
+use Rattle.ef_base.specs.Texts.{Texts, AllDiffer}
+use Rattle.ef_forms.specs.Tree.{Tree, Shape, Trees, Clauses, FormTree, PlacedTree, tree, int, atom, var, call, remote, end, more, no_clauses, clause, module_name, export, function}
+use Rattle.ef_forms.specs.Ways.{NameSet, Way, no_names, one_name, union, bind, beside, ways, shape_ways, side_by_side, names, shape_names, all_names, on_some, use_faults, faults, shape_faults, all_faults, body_faults, clauses_faults}
+use Rattle.ef_front.specs.Source.{form_faults, forms_faults}
+use Rattle.ef_front.proofs.Renaming.{renamed, renamed_shape, renamed_all, renamed_clauses, renamed_form, renamed_placed}
+use Rattle.ef_front.proofs.OfNames.{TreeOf, ShapeOf, TreesOf, ClausesOf, FormOf, FormsOf}
+use Rattle.ef_front.proofs.RenamedBuilt.{Keeps, injective}
+
+same_test : (p q : Bool) → (p ≡ true → q ≡ true) → (q ≡ true → p ≡ true) → p ≡ q
+same_test true q f g = sym (f refl)
+same_test false true f g = g refl
+same_test false false f g = refl
+
+module _ (a b : Texts) (r : Name → Name) (differ : AllDiffer b) where
+  -- the sets agree on each name that keeps its text
+  abbrev Alike : NameSet → NameSet → Type 0
+  Alike s t = (n : Name) → Keeps a b r n → s (r n).index ≡ t n.index
+
+  abbrev AllAlike : List NameSet → List NameSet → Type 0
+  AllAlike [] [] = Unit {0}
+  AllAlike (s ∷ ss) (t ∷ ts) = Alike s t × AllAlike ss ts
+  AllAlike _ _ = ⊥
+
+  abbrev WaysAlike : Way → Way → Type 0
+  WaysAlike f g = (s t : NameSet) → Alike s t → AllAlike (f s) (g t)
+
+  -- ---- sets and ways
+
+  alike_one : (m : Name) → Keeps a b r m → Alike (one_name (r m)) (one_name m)
+  alike_one m k n l = same_test ((r m).index == (r n).index) (m.index == n.index)
+      (λ e. (Decides-eqb m.index n.index).1 (ap (λ (x : Name). x.index)
+      (injective a b r differ m n k l (ap (λ (i : ℕ). let x : Name = record { index = i } in x) ((Decides-eqb (r m).index (r n).index).0 e)))))
+      (λ e. (Decides-eqb (r m).index (r n).index).1
+      (ap (λ (i : ℕ). let x : Name = record { index = i } in (r x).index) ((Decides-eqb m.index n.index).0 e)))
+
+  alike_union : (s t u v : NameSet) → Alike s t → Alike u v → Alike (union s u) (union t v)
+  alike_union s t u v h g = λ n k. ap₂ (λ p q. p || q) (h n k) (g n k)
+
+  alike_append : (ss ts us vs : List NameSet) → AllAlike ss ts → AllAlike us vs → AllAlike (ss ++ us) (ts ++ vs)
+  alike_append [] [] us vs h g = g
+  alike_append [] (t ∷ ts) us vs h g = absurd h
+  alike_append (s ∷ ss) [] us vs h g = absurd h
+  alike_append (s ∷ ss) (t ∷ ts) us vs h g = (h.0, alike_append ss ts us vs h.1 g)
+
+  alike_flat : (f g : Way) (ss ts : List NameSet) → WaysAlike f g → AllAlike ss ts → AllAlike (flat_map f ss) (flat_map g ts)
+  alike_flat f g [] [] w h = tt
+  alike_flat f g [] (t ∷ ts) w h = absurd h
+  alike_flat f g (s ∷ ss) [] w h = absurd h
+  alike_flat f g (s ∷ ss) (t ∷ ts) w h = alike_append (f s) (g t) (flat_map f ss) (flat_map g ts) (w s t h.0) (alike_flat f g ss ts w h.1)
+
+  alike_unions : (s t : NameSet) (us vs : List NameSet) → Alike s t → AllAlike us vs → AllAlike (map (union s) us) (map (union t) vs)
+  alike_unions s t [] [] h g = tt
+  alike_unions s t [] (v ∷ vs) h g = absurd g
+  alike_unions s t (u ∷ us) [] h g = absurd g
+  alike_unions s t (u ∷ us) (v ∷ vs) h g = (alike_union s t u v h g.0, alike_unions s t us vs h g.1)
+
+  alike_beside : (f g h k : Way) → WaysAlike f g → WaysAlike h k → WaysAlike (beside f h) (beside g k)
+  alike_beside f g h k one two = λ s t e.
+      alike_flat (λ u. map (union u) (h s)) (λ u. map (union u) (k t)) (f s) (g t) (λ u v i. alike_unions u v (h s) (k t) i (two s t e)) (one s t e)
+
+  alike_bind : (s t : NameSet) → Alike s t → WaysAlike (bind s) (bind t)
+  alike_bind s t h = λ u v e. (alike_union u v s t e h, tt)
+
+  mutual
+    names_alike : (e : Tree) → TreeOf (Keeps a b r) e → Alike (names (renamed r e)) (names e)
+    names_alike (tree p e) k = shape_names_alike e k
+
+    shape_names_alike : (e : Shape) → ShapeOf (Keeps a b r) e → Alike (shape_names (renamed_shape r e)) (shape_names e)
+    shape_names_alike (int i) k = λ n l. refl
+    shape_names_alike (atom m) k = λ n l. refl
+    shape_names_alike (var m) k = alike_one m k
+    shape_names_alike (call f es) k =
+        alike_union (names (renamed r f)) (names f) (all_names (renamed_all r es)) (all_names es) (names_alike f k.0) (all_names_alike es k.1)
+    shape_names_alike (remote m f es) k =
+        alike_union (names (renamed r m)) (names m) (union (names (renamed r f)) (all_names (renamed_all r es))) (union (names f) (all_names es)) (names_alike m k.0)
+        (alike_union (names (renamed r f)) (names f) (all_names (renamed_all r es)) (all_names es) (names_alike f k.1) (all_names_alike es k.2))
+
+    all_names_alike : (es : Trees) → TreesOf (Keeps a b r) es → Alike (all_names (renamed_all r es)) (all_names es)
+    all_names_alike end k = λ n l. refl
+    all_names_alike (more e es) k =
+        alike_union (names (renamed r e)) (names e) (all_names (renamed_all r es)) (all_names es) (names_alike e k.0) (all_names_alike es k.1)
+
+  mutual
+    ways_alike : (e : Tree) → TreeOf (Keeps a b r) e → WaysAlike (ways (renamed r e)) (ways e)
+    ways_alike (tree p e) k = shape_ways_alike e k
+
+    shape_ways_alike : (e : Shape) → ShapeOf (Keeps a b r) e → WaysAlike (shape_ways (renamed_shape r e)) (shape_ways e)
+    shape_ways_alike (int i) k = λ s t h. (h, tt)
+    shape_ways_alike (atom m) k = λ s t h. (h, tt)
+    shape_ways_alike (var m) k = alike_bind (one_name (r m)) (one_name m) (alike_one m k)
+    shape_ways_alike (call f es) k =
+        alike_beside (ways (renamed r f)) (ways f) (side_by_side (renamed_all r es)) (side_by_side es) (ways_alike f k.0) (side_alike es k.1)
+    shape_ways_alike (remote m f es) k =
+        alike_beside (ways (renamed r m)) (ways m) (beside (ways (renamed r f)) (side_by_side (renamed_all r es))) (beside (ways f) (side_by_side es)) (ways_alike m k.0)
+        (alike_beside (ways (renamed r f)) (ways f) (side_by_side (renamed_all r es)) (side_by_side es) (ways_alike f k.1) (side_alike es k.2))
+
+    side_alike : (es : Trees) → TreesOf (Keeps a b r) es → WaysAlike (side_by_side (renamed_all r es)) (side_by_side es)
+    side_alike end k = λ s t h. (h, tt)
+    side_alike (more e es) k =
+        alike_beside (ways (renamed r e)) (ways e) (side_by_side (renamed_all r es)) (side_by_side es) (ways_alike e k.0) (side_alike es k.1)
+
+  -- ---- faults
+
+  on_some_alike : (n : Name) (ss ts : List NameSet) → Keeps a b r n → AllAlike ss ts → on_some (r n) ss ≡ on_some n ts
+  on_some_alike n [] [] k h = refl
+  on_some_alike n [] (t ∷ ts) k h = absurd h
+  on_some_alike n (s ∷ ss) [] k h = absurd h
+  on_some_alike n (s ∷ ss) (t ∷ ts) k h = ap₂ (λ p q. p || q) (h.0 n k) (on_some_alike n ss ts k h.1)
+
+  use_alike : (p : Place) (n : Name) (ss ts : List NameSet) → Keeps a b r n → AllAlike ss ts → use_faults a p (r n) ss ≡ use_faults b p n ts
+  use_alike p n ss ts k h =
+      ap₂ (λ (bound : Bool) (words : List ℕ). let fault : Fault = record { place = p; code = 451; words = words } in if bound then [] else (fault ∷ []))
+      (on_some_alike n ss ts k h) k.same
+
+  -- two lists that are equal in both parts
+  both : {A : Type 0} {xs ys us vs : List A} → xs ≡ ys → us ≡ vs → xs ++ us ≡ ys ++ vs
+  both e f = ap₂ (λ x y. x ++ y) e f
+
+  mutual
+    faults_alike : (e : Tree) (ss ts : List NameSet) → TreeOf (Keeps a b r) e → AllAlike ss ts → faults a (renamed r e) ss ≡ faults b e ts
+    faults_alike (tree p e) ss ts k h = shape_faults_alike p e ss ts k h
+
+    shape_faults_alike : (p : Place) (e : Shape) (ss ts : List NameSet) → ShapeOf (Keeps a b r) e → AllAlike ss ts → shape_faults a p (renamed_shape r e) ss ≡ shape_faults b p e ts
+    shape_faults_alike p (int i) ss ts k h = refl
+    shape_faults_alike p (atom n) ss ts k h = refl
+    shape_faults_alike p (var n) ss ts k h = use_alike p n ss ts k h
+    shape_faults_alike p (call f es) ss ts k h = both (faults_alike f ss ts k.0 h) (all_faults_alike es ss ts k.1 h)
+    shape_faults_alike p (remote m f es) ss ts k h =
+        both (faults_alike m ss ts k.0 h) (both (faults_alike f ss ts k.1 h) (all_faults_alike es ss ts k.2 h))
+
+    all_faults_alike : (es : Trees) (ss ts : List NameSet) → TreesOf (Keeps a b r) es → AllAlike ss ts → all_faults a (renamed_all r es) ss ≡ all_faults b es ts
+    all_faults_alike end ss ts k h = refl
+    all_faults_alike (more e es) ss ts k h = both (faults_alike e ss ts k.0 h) (all_faults_alike es ss ts k.1 h)
+
+  body_alike : (es : Trees) (ss ts : List NameSet) → TreesOf (Keeps a b r) es → AllAlike ss ts → body_faults a (renamed_all r es) ss ≡ body_faults b es ts
+  body_alike end ss ts k h = refl
+  body_alike (more e es) ss ts k h =
+      both (faults_alike e ss ts k.0 h)
+      (body_alike es (flat_map (ways (renamed r e)) ss) (flat_map (ways e) ts) k.1 (alike_flat (ways (renamed r e)) (ways e) ss ts (ways_alike e k.0) h))
+
+  clauses_alike : (cs : Clauses) (ss ts : List NameSet) → ClausesOf (Keeps a b r) cs → AllAlike ss ts → clauses_faults a (renamed_clauses r cs) ss ≡ clauses_faults b cs ts
+  clauses_alike no_clauses ss ts k h = refl
+  clauses_alike (clause p ps g body cs) ss ts k h =
+      both (body_alike body (flat_map (bind (all_names (renamed_all r ps))) ss) (flat_map (bind (all_names ps)) ts) k.1
+      (alike_flat (bind (all_names (renamed_all r ps))) (bind (all_names ps)) ss ts (alike_bind (all_names (renamed_all r ps)) (all_names ps) (all_names_alike ps k.0)) h))
+      (clauses_alike cs ss ts k.2 h)
+
+  form_alike : (f : FormTree) → FormOf (Keeps a b r) f → form_faults a (renamed_form r f) ≡ form_faults b f
+  form_alike (module_name n) k = refl
+  form_alike (export refs) k = refl
+  form_alike (function f) k = clauses_alike f.clauses (no_names ∷ []) (no_names ∷ []) k.1 ((λ n l. refl), tt)
+
+  pub faults_renamed : (fs : List PlacedTree) → FormsOf (Keeps a b r) fs → forms_faults a (map (renamed_placed r) fs) ≡ forms_faults b fs
+  faults_renamed [] k = refl
+  faults_renamed (f ∷ fs) k = both (form_alike f.form k.0) (faults_renamed fs k.1)

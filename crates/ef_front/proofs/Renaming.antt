@@ -1,0 +1,173 @@
+-- Tokens and trees under other names: renamed tokens spell the renamed tree.
+use Rattle.std.proofs.Common.{◌≡◌, ◌≤◌, ◌+◌, ℕ, suc, max, List, [], ◌∷◌, ◌++◌, refl, sym, ap, ◌∙◌, subst, subst₂, map}
+use Rattle.std.proofs.lemmas.List.{map-append}
+use Rattle.ef_base.specs.declared.name.Name.{Name}
+use Rattle.ef_token.specs.declared.token.TokenKind.{TokenKind}
+use Rattle.ef_token.specs.declared.token.TokenKind.TheVariants as kind
+use Rattle.ef_token.specs.declared.token.Token.{Token}
+use Rattle.ef_token.specs.declared.word.Sym.TheVariants as sy
+use Rattle.ef_forms.specs.declared.form.FunctionRef.{FunctionRef}
+use Rattle.ef_forms.specs.declared.tables.FunctionName.{FunctionName}
+use Rattle.ef_forms.specs.Tree.{Tree, Shape, Trees, Guards, Clauses, FunctionTree, FormTree, PlacedTree, ModuleTree, tree, int, atom, var, call, remote, end, more, no_guard, or_guard, no_clauses, clause, module_name, export, function, count}
+use Rattle.ef_forms.specs.Built.{IsNarrow, IsNarrowShape, AreNarrow, AreNarrowGuards, AreNarrowClauses, most_arguments}
+use Rattle.ef_parse.specs.Grammar.{token, symbol, start_of, call_level, max_level, Spells, SpellsAll, SpellsSome, SpellsClauses, a_variable, an_atom, an_integer, parentheses, a_call, a_remote, nothing, some, one, and_more, one_clause}
+use Rattle.ef_module.specs.Forms.{SpellsReference, SpellsReferences, SpellsReferenceList, a_reference, arity_of, AreNarrowReferences, IsNarrowForm}
+use Rattle.ef_module.specs.Forms as forms
+
+module _ (r : Name → Name) where
+  -- ---- under other names
+
+  abbrev pub renamed_kind : TokenKind → TokenKind
+  renamed_kind (kind.Atom n) = kind.Atom (r n)
+  renamed_kind (kind.Var n) = kind.Var (r n)
+  renamed_kind k = k
+
+  abbrev pub renamed_token : Token → Token
+  renamed_token t = record { kind = renamed_kind t.kind; place = t.place }
+
+  abbrev mutual
+    pub renamed : Tree → Tree
+    renamed (tree p e) = tree p (renamed_shape e)
+
+    pub renamed_shape : Shape → Shape
+    renamed_shape (int i) = int i
+    renamed_shape (atom n) = atom (r n)
+    renamed_shape (var n) = var (r n)
+    renamed_shape (call f es) = call (renamed f) (renamed_all es)
+    renamed_shape (remote m f es) = remote (renamed m) (renamed f) (renamed_all es)
+
+    pub renamed_all : Trees → Trees
+    renamed_all end = end
+    renamed_all (more e es) = more (renamed e) (renamed_all es)
+
+  abbrev pub renamed_guards : Guards → Guards
+  renamed_guards no_guard = no_guard
+  renamed_guards (or_guard es gs) = or_guard (renamed_all es) (renamed_guards gs)
+
+  abbrev pub renamed_clauses : Clauses → Clauses
+  renamed_clauses no_clauses = no_clauses
+  renamed_clauses (clause p ps g body cs) = clause p (renamed_all ps) (renamed_guards g) (renamed_all body) (renamed_clauses cs)
+
+  abbrev pub renamed_function : FunctionTree → FunctionTree
+  renamed_function f = record { place = f.place; name = r f.name; arity = f.arity; clauses = renamed_clauses f.clauses }
+
+  abbrev pub renamed_reference : FunctionRef → FunctionRef
+  renamed_reference f = record { place = f.place; name = r f.name; arity = f.arity }
+
+  abbrev pub renamed_key : FunctionName → FunctionName
+  renamed_key f = record { name = r f.name; arity = f.arity }
+
+  abbrev pub renamed_form : FormTree → FormTree
+  renamed_form (module_name n) = module_name (r n)
+  renamed_form (export fs) = export (map renamed_reference fs)
+  renamed_form (function f) = function (renamed_function f)
+
+  abbrev pub renamed_placed : PlacedTree → PlacedTree
+  renamed_placed f = record { place = f.place; form = renamed_form f.form }
+
+  abbrev pub renamed_module : ModuleTree → ModuleTree
+  renamed_module m = record { name = r m.name; forms = map renamed_placed m.forms }
+
+  -- ---- what stays
+
+  pub same_start : (ts : List Token) → start_of (map renamed_token ts) ≡ start_of ts
+  same_start [] = refl
+  same_start (t ∷ ts) = refl
+
+  pub same_count : (es : Trees) → count (renamed_all es) ≡ count es
+  same_count end = refl
+  same_count (more e es) = ap (λ n. 1 + n) (same_count es)
+
+  pub same_arity : (cs : Clauses) → arity_of (renamed_clauses cs) ≡ arity_of cs
+  same_arity no_clauses = refl
+  same_arity (clause p ps g body cs) = same_count ps
+
+  few : (es : Trees) → count es ≤ most_arguments → count (renamed_all es) ≤ most_arguments
+  few es h = subst (λ n. n ≤ most_arguments) (sym (same_count es)) h
+
+  mutual
+    narrow : (e : Tree) → IsNarrow e → IsNarrow (renamed e)
+    narrow (tree p e) h = narrow_shape e h
+
+    narrow_shape : (e : Shape) → IsNarrowShape e → IsNarrowShape (renamed_shape e)
+    narrow_shape (int i) h = tt
+    narrow_shape (atom n) h = tt
+    narrow_shape (var n) h = tt
+    narrow_shape (call f es) h = (few es h.0, narrow f h.1, narrow_all es h.2)
+    narrow_shape (remote m f es) h = (few es h.0, narrow m h.1, narrow f h.2, narrow_all es h.3)
+
+    narrow_all : (es : Trees) → AreNarrow es → AreNarrow (renamed_all es)
+    narrow_all end h = tt
+    narrow_all (more e es) h = (narrow e h.0, narrow_all es h.1)
+
+  narrow_guards : (gs : Guards) → AreNarrowGuards gs → AreNarrowGuards (renamed_guards gs)
+  narrow_guards no_guard h = tt
+  narrow_guards (or_guard es gs) h = (narrow_all es h.0, narrow_guards gs h.1)
+
+  narrow_clauses : (cs : Clauses) → AreNarrowClauses cs → AreNarrowClauses (renamed_clauses cs)
+  narrow_clauses no_clauses h = tt
+  narrow_clauses (clause p ps g body cs) h = (few ps h.0, narrow_all ps h.1, narrow_guards g h.2, narrow_all body h.3, narrow_clauses cs h.4)
+
+  narrow_references : (fs : List FunctionRef) → AreNarrowReferences fs → AreNarrowReferences (map renamed_reference fs)
+  narrow_references [] h = tt
+  narrow_references (f ∷ fs) h = (h.0, narrow_references fs h.1)
+
+  pub narrow_form : (f : FormTree) → IsNarrowForm f → IsNarrowForm (renamed_form f)
+  narrow_form (module_name n) h = tt
+  narrow_form (export fs) h = narrow_references fs h
+  narrow_form (function f) h = narrow_clauses f.clauses h
+
+  -- ---- what is spelled
+
+  pub apart : (ts us : List Token) → map renamed_token (ts ++ us) ≡ map renamed_token ts ++ map renamed_token us
+  apart ts us = map-append renamed_token ts us
+
+  mutual
+    pub spells : (e : Tree) (k d : ℕ) (ts : List Token) → Spells e k d ts → Spells (renamed e) k d (map renamed_token ts)
+    spells e k d ts (a_variable n p) = a_variable (r n) p
+    spells e k d ts (an_atom n p) = an_atom (r n) p
+    spells e k d ts (an_integer i p) = an_integer i p
+    spells e k d ts (parentheses e' k' d' p q es s) =
+        subst (λ l. Spells (renamed e') max_level (suc d') (symbol sy.LeftParen p ∷ l)) (sym (apart es (symbol sy.RightParen q ∷ [])))
+        (parentheses (renamed e') k' d' p q (map renamed_token es) (spells e' k' d' es s))
+    spells e k d ts (a_call f args d' g p q fs xs s ss) =
+        subst₂ (λ start l. Spells (tree start (call (renamed f) (renamed_all args))) call_level (suc (max d' g)) l) (same_start fs)
+        (sym (apart fs (symbol sy.LeftParen p ∷ (xs ++ symbol sy.RightParen q ∷ []))
+        ∙ ap (λ l. map renamed_token fs ++ symbol sy.LeftParen p ∷ l) (apart xs (symbol sy.RightParen q ∷ []))))
+        (a_call (renamed f) (renamed_all args) d' g p q (map renamed_token fs) (map renamed_token xs) (spells f max_level d' fs s) (spells_all args g xs ss))
+    spells e k d ts (a_remote m f args c d' g p q t ms fs xs s s' ss) =
+        subst₂ (λ start l. Spells (tree start (remote (renamed m) (renamed f) (renamed_all args))) call_level (suc (max c (max d' g))) l) (same_start ms)
+        (sym (apart ms (symbol sy.Colon p ∷ (fs ++ symbol sy.LeftParen q ∷ (xs ++ symbol sy.RightParen t ∷ [])))
+        ∙ ap (λ l. map renamed_token ms ++ symbol sy.Colon p ∷ l) (apart fs (symbol sy.LeftParen q ∷ (xs ++ symbol sy.RightParen t ∷ []))
+        ∙ ap (λ l. map renamed_token fs ++ symbol sy.LeftParen q ∷ l) (apart xs (symbol sy.RightParen t ∷ [])))))
+        (a_remote (renamed m) (renamed f) (renamed_all args) c d' g p q t (map renamed_token ms) (map renamed_token fs) (map renamed_token xs)
+        (spells m max_level c ms s) (spells f max_level d' fs s') (spells_all args g xs ss))
+
+    spells_all : (es : Trees) (d : ℕ) (ts : List Token) → SpellsAll es d ts → SpellsAll (renamed_all es) d (map renamed_token ts)
+    spells_all es d ts nothing = nothing
+    spells_all es d ts (some es' d' ts' s) = some (renamed_all es') d' (map renamed_token ts') (spells_some es' d' ts' s)
+
+    spells_some : (es : Trees) (d : ℕ) (ts : List Token) → SpellsSome es d ts → SpellsSome (renamed_all es) d (map renamed_token ts)
+    spells_some es d ts (one e k d' ts' s) = one (renamed e) k d' (map renamed_token ts') (spells e k d' ts' s)
+    spells_some es d ts (and_more e es' k d' g p ts' us s ss) =
+        subst (λ l. SpellsSome (more (renamed e) (renamed_all es')) (max d' g) l) (sym (apart ts' (symbol sy.Comma p ∷ us)))
+        (and_more (renamed e) (renamed_all es') k d' g p (map renamed_token ts') (map renamed_token us) (spells e k d' ts' s) (spells_some es' g us ss))
+
+  pub spells_clauses : (n : Name) (cs : Clauses) (d : ℕ) (ts : List Token) → SpellsClauses n cs d ts → SpellsClauses (r n) (renamed_clauses cs) d (map renamed_token ts)
+  spells_clauses n cs d ts (one_clause n' ps es c g p q u s xs ys ss ss') =
+      subst (λ l. SpellsClauses (r n') (clause p (renamed_all ps) no_guard (renamed_all es) no_clauses) (max c g) (token (kind.Atom (r n')) p ∷ symbol sy.LeftParen q ∷ l))
+      (sym (apart xs (symbol sy.RightParen u ∷ symbol sy.Arrow s ∷ ys)))
+      (one_clause (r n') (renamed_all ps) (renamed_all es) c g p q u s (map renamed_token xs) (map renamed_token ys) (spells_all ps c xs ss) (spells_some es g ys ss'))
+
+  spells_reference : (f : FunctionRef) (ts : List Token) → SpellsReference f ts → SpellsReference (renamed_reference f) (map renamed_token ts)
+  spells_reference f ts (a_reference n arity p q u) = a_reference (r n) arity p q u
+
+  spells_references : (fs : List FunctionRef) (ts : List Token) → SpellsReferences fs ts → SpellsReferences (map renamed_reference fs) (map renamed_token ts)
+  spells_references fs ts (forms.one f ts' s) = forms.one (renamed_reference f) (map renamed_token ts') (spells_reference f ts' s)
+  spells_references fs ts (forms.and_more f fs' p ts' us s ss) =
+      subst (λ l. SpellsReferences (renamed_reference f ∷ map renamed_reference fs') l) (sym (apart ts' (symbol sy.Comma p ∷ us)))
+      (forms.and_more (renamed_reference f) (map renamed_reference fs') p (map renamed_token ts') (map renamed_token us) (spells_reference f ts' s) (spells_references fs' us ss))
+
+  pub spells_reference_list : (fs : List FunctionRef) (ts : List Token) → SpellsReferenceList fs ts → SpellsReferenceList (map renamed_reference fs) (map renamed_token ts)
+  spells_reference_list fs ts forms.nothing = forms.nothing
+  spells_reference_list fs ts (forms.some fs' ts' s) = forms.some (map renamed_reference fs') (map renamed_token ts') (spells_references fs' ts' s)

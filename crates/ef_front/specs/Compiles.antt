@@ -1,0 +1,61 @@
+-- What is made of the forms of a source, and of its module.
+use Rattle.std.specs.Prelude.{ℕ, List, [], ◌∷◌, ◌++◌, ◌≡◌, ◌≢◌, ◌⊎◌, Bool, true, false}
+use Rattle.ef_base.specs.declared.fault.Fault.{Fault}
+use Rattle.ef_base.specs.Faults.{set_of}
+use Rattle.ef_base.specs.Texts.{Texts, Extends}
+use Rattle.ef_token.specs.declared.token.Token.{Token}
+use Rattle.ef_token.specs.declared.token.ScannedForm.{ScannedForm}
+use Rattle.ef_token.specs.declared.token.ScannedForm.TheVariants.{Tokens, Faulty as faulty_form}
+use Rattle.ef_scan.specs.Scan.{AreOf}
+use Rattle.ef_forms.specs.Tree.{ModuleTree}
+use Rattle.ef_forms.specs.Built.{Each, IsBuilt, functions_in}
+use Rattle.ef_module.specs.Forms.{SpellsModule}
+use Rattle.ef_core.specs.OfTable.{CoreModuleOf}
+use Rattle.ef_core.specs.Plain.{plain_module}
+use Rattle.ef_lowmod.specs.Function.{IsLight}
+use Rattle.ef_lowmod.specs.Outline.{Outline}
+use Rattle.ef_front.specs.declared.compiling.Lowered.{Lowered}
+use Rattle.ef_front.specs.declared.compiling.Compiled.{Compiled}
+use Rattle.ef_front.specs.declared.compiling.Compiled.TheVariants.{Module, Faulty}
+use Rattle.ef_front.specs.Source.{module_faults, at_start}
+
+-- some form is faulty
+abbrev pub HasFaulty : List ScannedForm → Type 0
+HasFaulty [] = ⊥
+HasFaulty (faulty_form fault ∷ scanned) = Unit {0}
+HasFaulty (Tokens ts ∷ scanned) = HasFaulty scanned
+
+-- the scanned forms are these lists of tokens, or some form is faulty
+abbrev pub AreTaken : List ScannedForm → Bool → List (List Token) → Type 0
+AreTaken scanned true forms = HasFaulty scanned
+AreTaken scanned false forms = AreOf scanned forms
+
+-- the functions of each module that the forms spell are not too heavy for their variables
+abbrev pub SpellLight : List (List Token) → Type 0
+SpellLight forms = (all : Texts) (m : ModuleTree) → SpellsModule all m forms → Each IsLight (functions_in m.forms)
+
+-- the Core module has the outline of the module, and the names of both are of its table
+pub record IsLoweredTo (names : Texts) (m : ModuleTree) (l : Lowered) : Type 0 where
+  pub extends : Extends names l.names
+  pub outline : Outline l.names m (plain_module l.«module»)
+  pub of_table : CoreModuleOf l.names (plain_module l.«module»)
+
+-- the one fault of what is not built
+abbrev pub IsNotBuilt : List Fault → Type 0
+IsNotBuilt faults = faults ≡ at_start 500 [] ∷ []
+
+-- a module that is built, and its faults
+pub record IsFaulty (names : Texts) (m : ModuleTree) (faults : List Fault) : Type 0 where
+  pub built : IsBuilt names m
+  pub are : faults ≡ set_of (module_faults names m)
+
+abbrev pub IsCompiledModule : Texts → ModuleTree → Compiled → Type 0
+IsCompiledModule names m (Module l) = IsFaulty names m [] × IsLoweredTo names m l
+IsCompiledModule names m (Faulty faults) = (faults ≢ []) × (IsFaulty names m faults ⊎ ((IsBuilt names m → ⊥) × IsNotBuilt faults))
+
+abbrev pub IsCompiledForms : Texts → List (List Token) → Compiled → Type 0
+IsCompiledForms names forms (Module l) = (m : ModuleTree) × SpellsModule names m forms × IsFaulty names m [] × IsLoweredTo names m l
+IsCompiledForms names forms (Faulty faults) =
+    (faults ≢ [])
+    × (((m : ModuleTree) × SpellsModule names m forms × IsFaulty names m faults)
+      ⊎ (((m : ModuleTree) → SpellsModule names m forms → IsBuilt names m → ⊥) × IsNotBuilt faults))

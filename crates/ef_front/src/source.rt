@@ -1,0 +1,102 @@
+// From a source to its module in Core, or to its faults.
+ghost use Rattle.std.specs.Prelude.{◌≡◌, ◌≤◌, IfOk, length};
+ghost use Rattle.ef_token.specs.TokenForm.{AllTokensOf, AreForms};
+ghost use Rattle.ef_forms.specs.Built.{Each, functions_in};
+ghost use Rattle.ef_forms.specs.OfTable.{ModuleOf};
+ghost use Rattle.ef_forms.specs.Plain.{plain_module};
+ghost use Rattle.ef_module.specs.Read.{lists};
+ghost use Rattle.ef_lowmod.specs.Function.{IsLight, IsNarrowFunction, IsWhole};
+ghost use Rattle.ef_front.specs.Compiles.{AreTaken, IsCompiledForms, IsCompiledModule, SpellLight};
+ghost use Rattle.ef_front.specs.Input.{limit};
+ghost use Rattle.ef_front.specs.Runs.{IsCompiledText};
+
+use crate::blank::is_blank;
+use crate::compiling::{Compiled, Lowered};
+use crate::faults::rule_faults;
+use crate::refused::{blank, not_built};
+use ef_base::{Names, NoMemory};
+use ef_forms::Module;
+use ef_lowmod::lower;
+use ef_module::{FormRefusal, module};
+use ef_scan::scan;
+use ef_tables::{is_built, tables};
+use ef_token::{ScannedForm, Token};
+use std::alloc::Global;
+
+/// The module in Core that is made of a source, or the faults of the source.
+pub fn compile_text(alloc: Global, source: &[u8]) -> Result<Compiled, NoMemory>
+    requires { length source.now ≤ limit }
+    ensures { IfOk result (IsCompiledText source.now) }
+{
+    if is_blank(source) {
+        return Ok(Compiled::Faulty(blank(alloc)?));
+    }
+    let mut names = Names::new(alloc);
+    let scanned = scan(alloc, &mut names, source, 0)?;
+    let taken = take_forms(alloc, scanned)?;
+    if taken.is_foreign {
+        return Ok(Compiled::Faulty(not_built(alloc)?));
+    }
+    compile_forms(alloc, names, &taken.forms)
+}
+
+/// The tokens of each form, as far as none is faulty.
+#[derive(Drop)]
+struct Taken {
+    is_foreign: bool,
+    forms: Vec<Vec<Token>>,
+}
+
+fn take_forms(alloc: Global, scanned: Vec<ScannedForm>) -> Result<Taken, NoMemory>
+    ensures { IfOk result (λ taken. AreTaken scanned.items taken.is_foreign (lists taken.forms.items)) }
+{
+    let mut forms = Vec::new(alloc);
+    let mut is_foreign = false;
+    for form in scanned {
+        match form {
+            ScannedForm::Tokens(tokens) => forms.push(tokens)?,
+            ScannedForm::Faulty(_) => is_foreign = true,
+        }
+    }
+    Ok(Taken { is_foreign, forms })
+}
+
+fn compile_forms(
+    alloc: Global,
+    mut names: Names,
+    forms: &[Vec<Token>],
+) -> Result<Compiled, NoMemory>
+    requires ends { AreForms (lists forms.now) }
+    requires named { AllTokensOf names (lists forms.now) }
+    requires light { SpellLight (lists forms.now) }
+    ensures { IfOk result (IsCompiledForms names (lists forms.now)) }
+{
+    match module(alloc, &mut names, forms) {
+        Ok(module) => compile_module(alloc, names, &module),
+        Err(FormRefusal::Faulty(_)) => Ok(Compiled::Faulty(not_built(alloc)?)),
+        Err(FormRefusal::NoMemory) => Err(NoMemory),
+    }
+}
+
+fn compile_module(
+    alloc: Global,
+    mut names: Names,
+    module: &Module,
+) -> Result<Compiled, NoMemory>
+    requires of_table { ModuleOf names (plain_module «module».now) }
+    requires narrow { Each IsNarrowFunction (functions_in (plain_module «module».now).forms) }
+    requires whole { Each IsWhole (functions_in (plain_module «module».now).forms) }
+    requires light { Each IsLight (functions_in (plain_module «module».now).forms) }
+    ensures { IfOk result (IsCompiledModule names (plain_module «module».now)) }
+{
+    let tables = tables(alloc, &names, module)?;
+    if !is_built(alloc, &names, module, &tables)? {
+        return Ok(Compiled::Faulty(not_built(alloc)?));
+    }
+    let faults = rule_faults(alloc, &names, module, &tables)?;
+    if !faults.faults().is_empty() {
+        return Ok(Compiled::Faulty(faults));
+    }
+    let module = lower(alloc, &mut names, module, &tables)?;
+    Ok(Compiled::Module(Lowered { names, module }))
+}

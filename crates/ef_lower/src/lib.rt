@@ -1,0 +1,8 @@
+//! Lowers expressions and bodies to Core, in let form.
+#![tactic(auto)]
+
+mod append;
+mod lower;
+mod steps;
+
+pub use lower::{LoweredExpr, body, expression};

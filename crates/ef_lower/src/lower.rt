@@ -1,0 +1,108 @@
+// The calls of this crate.
+ghost use Rattle.std.specs.Prelude.{◌≡◌, ◌+◌, ◌*◌, ◌≤◌, [], ◌∷◌, IfOk, length, map};
+ghost use Rattle.ef_base.specs.Texts.{Extends};
+ghost use Rattle.ef_core.specs.Fresh.{most_variables};
+ghost use Rattle.ef_core.specs.OfTable.{BindOf, Each};
+ghost use Rattle.ef_core.specs.Plain as core;
+ghost use Rattle.ef_forms.specs.Built.{AreBuilt, AreNarrow, IsBuiltTree, IsNarrow};
+ghost use Rattle.ef_forms.specs.OfTable.{TreeOf, TreesOf};
+ghost use Rattle.ef_forms.specs.Plain.{plain, plain_all};
+ghost use Rattle.ef_forms.specs.Ways.{body_faults, faults};
+ghost use Rattle.ef_forms.specs.Weight.{all_weight, weight};
+ghost use Rattle.ef_lower.specs.Lowers.{Draws, IsLowered, Lowers};
+ghost use Rattle.ef_lower.specs.Ready.{bound_names, AreReady};
+
+use crate::append::append;
+use crate::steps::{finish, hold};
+use ef_base::{Name, Names, NoMemory};
+use ef_core::{CoreExpr, Env, Fresh, LetStep};
+use ef_forms::{Expr, Tables};
+use std::alloc::Global;
+
+/// A Core expression, whose values are the value of a source expression and then those of the names that it exports.
+#[derive(Drop)]
+pub struct LoweredExpr {
+    pub core: CoreExpr,
+    pub exports: Vec<Name>,
+}
+
+/// Lowers an expression.
+pub fn expression(
+    alloc: Global,
+    names: &mut Names,
+    tables: &Tables,
+    fresh: &mut Fresh,
+    expr: &Expr,
+    env: &Env,
+) -> Result<LoweredExpr, NoMemory>
+    requires built { IsBuiltTree names.old tables.now.functions.items (plain expr.now) }
+    requires narrow { IsNarrow (plain expr.now) }
+    requires of_table { TreeOf names.old (plain expr.now) }
+    requires env_of_table { Each (BindOf names.old) env.now }
+    requires no_faults { faults names.old (plain expr.now) (bound_names env.now ∷ []) ≡ [] }
+    requires enough { fresh.old + 500 * weight (plain expr.now) ≤ most_variables }
+    ensures kept { Extends names.old names.new }
+    ensures lowered { IfOk result (λ r. IsLowered names.new (core.plain r.core)) }
+    ensures exports { IfOk result (λ r. r.exports.items ≡ []) }
+    ensures drawn { IfOk result (λ r. Draws (500 * weight (plain expr.now)) fresh.old fresh.new) }
+{
+    let mut steps = Vec::new(alloc);
+    let value = append(alloc, names, tables, expr, env, fresh, &mut steps)?;
+    Ok(LoweredExpr {
+        core: finish(alloc, steps, value)?,
+        exports: Vec::new(alloc),
+    })
+}
+
+/// Lowers a body, whose expressions are evaluated in order. It isn't empty.
+pub fn body(
+    alloc: Global,
+    names: &mut Names,
+    tables: &Tables,
+    fresh: &mut Fresh,
+    exprs: &[Expr],
+    env: &Env,
+) -> Result<LoweredExpr, NoMemory>
+    requires some { 1 ≤ length exprs.now }
+    requires built { AreBuilt names.old tables.now.functions.items (plain_all exprs.now) }
+    requires narrow { AreNarrow (plain_all exprs.now) }
+    requires of_table { TreesOf names.old (plain_all exprs.now) }
+    requires env_of_table { Each (BindOf names.old) env.now }
+    requires no_faults { body_faults names.old (plain_all exprs.now) (bound_names env.now ∷ []) ≡ [] }
+    requires enough { fresh.old + 500 * all_weight (plain_all exprs.now) ≤ most_variables }
+    ensures kept { Extends names.old names.new }
+    ensures lowered { IfOk result (λ r. IsLowered names.new (core.plain r.core)) }
+    ensures exports { IfOk result (λ r. r.exports.items ≡ []) }
+    ensures drawn { IfOk result (λ r. Draws (500 * all_weight (plain_all exprs.now)) fresh.old fresh.new) }
+{
+    let mut steps = Vec::new(alloc);
+    let value = append_body(alloc, names, tables, exprs, env, fresh, &mut steps)?;
+    Ok(LoweredExpr {
+        core: finish(alloc, steps, value)?,
+        exports: Vec::new(alloc),
+    })
+}
+
+// The expressions before the last go behind the steps, with what is evaluated before the last.
+fn append_body(
+    alloc: Global,
+    names: &Names,
+    tables: &Tables,
+    exprs: &[Expr],
+    env: &Env,
+    fresh: &mut Fresh,
+    steps: &mut Vec<LetStep>,
+) -> Result<CoreExpr, NoMemory>
+    requires some { 1 ≤ length exprs.now }
+    requires ready { AreReady names.now tables.now.functions.items env.now (plain_all exprs.now) }
+    requires env_of_table { Each (BindOf names.now) env.now }
+    requires enough { fresh.old + all_weight (plain_all exprs.now) ≤ most_variables }
+    ensures { IfOk result (λ v. Lowers names.now (all_weight (plain_all exprs.now)) fresh.old (map core.plain_step steps.old.items) fresh.new (map core.plain_step steps.new.items) (core.plain v)) }
+{
+    let last = exprs.len() - 1;
+    for expr in &exprs[..last] {
+        let value = append(alloc, names, tables, expr, env, fresh, steps)?;
+        hold(alloc, fresh, steps, value)?;
+    }
+    Ok(append(alloc, names, tables, &exprs[last], env, fresh, steps)?)
+}

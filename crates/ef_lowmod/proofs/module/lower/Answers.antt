@@ -1,0 +1,47 @@
+use Rattle.std.proofs.Common.{◌∷◌, [], ◌++◌, map, refl, sym, subst, ap, ◌∙◌}
+use Rattle.std.specs.Prelude.{filter}
+use Rattle.ef_base.specs.Laws.{extends_later, extends_same, has_later}
+use Rattle.ef_core.specs.Plain.{plain_attribute, plain_def}
+use Rattle.ef_forms.specs.Built.{Each, IsBuiltFunction, exports_in, functions_in}
+use Rattle.ef_forms.specs.Plain.{plain_module, plain_placed}
+use Rattle.ef_lowmod.specs.Exports.{is_other_by}
+use Rattle.ef_lowmod.specs.Function.{AreLowered, IsReadyFunction}
+use Rattle.ef_lowmod.specs.Info.{fname}
+use Rattle.ef_lowmod.proofs.Later.{functions_later}
+use Rattle.ef_lowmod.proofs.Modules.{exports_named, names_later, others_same, outline_named, ready_functions, two_more}
+use Rattle.ef_lowmod.proofs.module.lower.Goals as goal
+
+pub lower_functions-requires : goal.lower_functions-requires
+lower_functions-requires c = λ all later.
+    let forms = (plain_module c.args.module.now).forms in
+    let whole = extends_later c.in_ok-fixed.ensures.kept later in
+    subst (λ l. Each (IsReadyFunction all c.args.tables.now.functions.items) (functions_in (map plain_placed l))) (sym c.deref-2.ensures.value)
+    (ready_functions c.args.names.now all c.args.tables.now.functions.items forms whole c.requires.of_table.1
+      (subst (λ d. Each (IsBuiltFunction all d) (functions_in forms)) (sym c.requires.functions) (c.requires.built all whole).bodies)
+      c.requires.narrow c.requires.whole c.requires.light (c.requires.no_fault all whole))
+
+pub returns-clause-outlined : goal.returns-clause-outlined
+returns-clause-outlined c = λ all later.
+    let forms = (plain_module c.args.module.now).forms in
+    let fixed = c.in_ok-fixed.fixed in
+    let from_fixed = extends_later c.in_ok-defs.ensures.kept later in
+    let named = exports_named c.args.names.now forms c.requires.of_table.1 in
+    let same = others_same _ _ all fixed (exports_in forms) c.in_ok-fixed.ensures.kept c.in_ok-fixed.ensures.differ from_fixed (c.in_ok-fixed.ensures.fixed _ (extends_same _)).module_info named in
+    record {
+      fixed = fixed;
+      are_fixed = c.in_ok-fixed.ensures.fixed all from_fixed;
+      name = refl;
+      exports = c.in_ok-exports.ensures
+        ∙ ap (λ fs. map (λ f. fname f.name f.arity) fs ++ (fname fixed.module_info 0 ∷ fname fixed.module_info 1 ∷ []))
+          (ap (filter (is_other_by fixed)) (c.deref.ensures.value ∙ c.requires.exports) ∙ same);
+      attributes = ap (map plain_attribute) c.new.ensures.items;
+      functions = map plain_def c.in_ok-defs.defs.items;
+      defs = two_more _ _ _ _ _ _ _ c.in_ok-push.ensures.items c.in_ok-push-2.ensures.items c.in_ok-info.ensures c.in_ok-item.ensures;
+      in_order = functions_later _ all later (functions_in forms) _ (subst (λ l. AreLowered c.lower_functions.new.names (functions_in (map plain_placed l)) (map plain_def c.in_ok-defs.defs.items)) c.deref-2.ensures.value c.in_ok-defs.ensures.lowered);
+    }
+
+pub returns-clause-of_table : goal.returns-clause-of_table
+returns-clause-of_table c = λ all later.
+    let whole = extends_later c.in_ok-fixed.ensures.kept (extends_later c.in_ok-defs.ensures.kept later) in
+    outline_named all (plain_module c.args.module.now) _ (returns-clause-outlined c all later) (has_later _ all _ c.requires.of_table.0 whole)
+    (names_later _ all _ whole (exports_named c.args.names.now _ c.requires.of_table.1))

@@ -1,0 +1,66 @@
+-- Functions that can be lowered, and what they are lowered to.
+use Rattle.std.specs.Prelude.{ℕ, ◌≡◌, ◌≤◌, ◌*◌, List, [], ◌∷◌, ◌++◌, length}
+use Rattle.ef_base.specs.Texts.{Texts}
+use Rattle.ef_core.specs.declared.tree.FName.{FName}
+use Rattle.ef_core.specs.Fresh.{most_variables}
+use Rattle.ef_core.specs.OfTable.{DefOf}
+use Rattle.ef_core.specs.Tree.{DefTree}
+use Rattle.ef_forms.specs.declared.tables.FunctionName.{FunctionName}
+use Rattle.ef_forms.specs.Built.{IsBuiltFunction, AreNarrowClauses, functions_in}
+use Rattle.ef_forms.specs.OfTable.{FunctionOf}
+use Rattle.ef_forms.specs.Tree.{Tree, Clauses, FunctionTree, PlacedTree, tree, var, clause, no_clauses, count}
+use Rattle.ef_forms.specs.Ways.{function_faults}
+use Rattle.ef_forms.specs.Weight.{function_weight}
+use Rattle.ef_lower.specs.Lowers.{IsLowered}
+
+-- each clause has this number of patterns, and a body that isn't empty
+abbrev pub AreWhole : ℕ → Clauses → Type 0
+AreWhole arity no_clauses = Unit {0}
+AreWhole arity (clause p ps g body cs) = (count ps ≡ arity) × (1 ≤ count body) × AreWhole arity cs
+
+abbrev pub IsWhole : FunctionTree → Type 0
+IsWhole f = AreWhole f.arity f.clauses
+
+abbrev pub IsNarrowFunction : FunctionTree → Type 0
+IsNarrowFunction f = AreNarrowClauses f.clauses
+
+-- the variables are enough for the function
+abbrev pub IsLight : FunctionTree → Type 0
+IsLight f = 500 * function_weight f ≤ most_variables
+
+abbrev pub HasNoFault : Texts → FunctionTree → Type 0
+HasNoFault all f = function_faults all f ≡ []
+
+pub record IsReadyFunction (all : Texts) (defined : List FunctionName) (f : FunctionTree) : Type 0 where
+  pub built : IsBuiltFunction all defined f
+  pub narrow : IsNarrowFunction f
+  pub whole : IsWhole f
+  pub light : IsLight f
+  pub of_table : FunctionOf all f
+  pub no_fault : HasNoFault all f
+
+abbrev pub fname_of : FunctionTree → FName
+fname_of f = record { name = f.name; arity = f.arity }
+
+-- a function of this name and arity, with as many parameters, and a body in let form
+pub record IsLoweredFunction (all : Texts) (f : FunctionTree) (d : DefTree) : Type 0 where
+  pub name : d.name ≡ fname_of f
+  pub parameters : length d.params ≡ f.arity
+  pub body : IsLowered all d.body
+  pub of_table : DefOf all d
+
+-- each of the one is lowered to that of the other
+abbrev pub AreLowered : Texts → List FunctionTree → List DefTree → Type 0
+AreLowered all [] [] = Unit {0}
+AreLowered all (f ∷ fs) (d ∷ ds) = IsLoweredFunction all f d × AreLowered all fs ds
+AreLowered all _ _ = ⊥
+
+-- behind the others, what the function of a form is lowered to
+pub record IsLoweredForm (all : Texts) (f : PlacedTree) (old new : List DefTree) : Type 0 where
+  pub added : List DefTree
+  pub is : new ≡ old ++ added
+  pub lowered : AreLowered all (functions_in (f ∷ [])) added
+
+abbrev pub IsVariable : Tree → Type 0
+IsVariable (tree p (var n)) = Unit {0}
+IsVariable _ = ⊥

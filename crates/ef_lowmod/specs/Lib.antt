@@ -1,0 +1,4 @@
+pub mod Function
+pub mod Info
+pub mod Outline
+pub mod Exports

@@ -1,0 +1,87 @@
+// Modules.
+ghost use Rattle.std.specs.Prelude.{◌≡◌, [], ◌∷◌, IfOk, OnOk, map};
+ghost use Rattle.ef_base.specs.Texts.{Extends, Texts};
+ghost use Rattle.ef_core.specs.OfTable.{CoreModuleOf};
+ghost use Rattle.ef_core.specs.Plain.{plain_def};
+ghost use Rattle.ef_core.specs.Plain as core;
+ghost use Rattle.ef_forms.specs.Built.{Each, IsBuilt, defined_in, exports_in, functions_in};
+ghost use Rattle.ef_forms.specs.OfTable.{ModuleOf};
+ghost use Rattle.ef_forms.specs.Plain.{plain_module, plain_placed};
+ghost use Rattle.ef_lowmod.specs.Function.{AreLowered, HasNoFault, IsLight, IsNarrowFunction, IsLoweredForm, IsReadyFunction, IsWhole};
+ghost use Rattle.ef_lowmod.specs.Outline.{Outline};
+
+use crate::exports::exports;
+use crate::function::lower_function;
+use crate::info::{fixed_names, info, item};
+use ef_base::{Names, NoMemory};
+use ef_core::{CoreDef, CoreModule};
+use ef_forms::{Form, Module, PlacedForm, Tables};
+use std::alloc::Global;
+
+/// Lowers a module, whose functions and exports the tables list.
+pub fn lower(
+    alloc: Global,
+    names: &mut Names,
+    module: &Module,
+    tables: &Tables,
+) -> Result<CoreModule, NoMemory>
+    requires functions { tables.now.functions.items ≡ defined_in (plain_module «module».now).forms }
+    requires exports { tables.now.exports.items ≡ exports_in (plain_module «module».now).forms }
+    requires built { (all : Texts) → Extends names.old all → IsBuilt all (plain_module «module».now) }
+    requires narrow { Each IsNarrowFunction (functions_in (plain_module «module».now).forms) }
+    requires whole { Each IsWhole (functions_in (plain_module «module».now).forms) }
+    requires light { Each IsLight (functions_in (plain_module «module».now).forms) }
+    requires of_table { ModuleOf names.old (plain_module «module».now) }
+    requires no_fault { (all : Texts) → Extends names.old all → Each (HasNoFault all) (functions_in (plain_module «module».now).forms) }
+    ensures kept { Extends names.old names.new }
+    ensures outlined { IfOk result (λ m. (all : Texts) → Extends names.new all → Outline all (plain_module «module».now) (core.plain_module m)) }
+    ensures of_table { IfOk result (λ m. (all : Texts) → Extends names.new all → CoreModuleOf all (core.plain_module m)) }
+{
+    let fixed = fixed_names(names)?;
+    let exports = exports(alloc, fixed, &tables.exports)?;
+    let mut defs = lower_functions(alloc, names, tables, &module.forms)?;
+    defs.push(info(alloc, fixed, module.name)?)?;
+    defs.push(item(alloc, fixed, module.name)?)?;
+    Ok(CoreModule {
+        name: module.name,
+        exports,
+        attributes: Vec::new(alloc),
+        defs,
+    })
+}
+
+// The functions among forms, in order.
+fn lower_functions(
+    alloc: Global,
+    names: &mut Names,
+    tables: &Tables,
+    forms: &[PlacedForm],
+) -> Result<Vec<CoreDef>, NoMemory>
+    requires { (all : Texts) → Extends names.old all → Each (IsReadyFunction all tables.now.functions.items) (functions_in (map plain_placed forms.now)) }
+    ensures kept { Extends names.old names.new }
+    ensures lowered { IfOk result (λ ds. AreLowered names.new (functions_in (map plain_placed forms.now)) (map plain_def ds.items)) }
+{
+    let mut defs = Vec::new(alloc);
+    for placed in forms {
+        lower_form(alloc, names, tables, placed, &mut defs)?;
+    }
+    Ok(defs)
+}
+
+// The function of a form, if it has one, goes behind the others.
+fn lower_form(
+    alloc: Global,
+    names: &mut Names,
+    tables: &Tables,
+    placed: &PlacedForm,
+    defs: &mut Vec<CoreDef>,
+) -> Result<(), NoMemory>
+    requires { Each (IsReadyFunction names.old tables.now.functions.items) (functions_in (plain_placed placed.now ∷ [])) }
+    ensures kept { Extends names.old names.new }
+    ensures lowered { OnOk result (IsLoweredForm names.new (plain_placed placed.now) (map plain_def defs.old.items) (map plain_def defs.new.items)) }
+{
+    if let Form::FunctionOf(function) = &placed.form {
+        defs.push(lower_function(alloc, names, tables, function)?)?;
+    }
+    Ok(())
+}

@@ -72,3 +72,6 @@ impl<O: Sink> Sink for Buffered<'_, O> {
         Ok(piece.len())
     }
 }
+
+#[cfg(test)]
+mod tests;

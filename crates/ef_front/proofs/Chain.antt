@@ -1,6 +1,8 @@
 -- From the tokens of a source to what is made of it.
 use Rattle.std.proofs.Common.{◌≡◌, ◌≢◌, ◌≤◌, ◌*◌, ◌⊎◌, ℕ, List, [], ◌∷◌, ◌++◌, Bool, true, false, length, refl, sym, ap, ◌∙◌, subst, arith, inl, inr, map, Result, Ok, Err, IfOk}
-use Rattle.std.specs.Prelude.{chars, IsUtf8, IsTrue, ◌↔◌}
+use Rattle.std.specs.Prelude.{chars, IsUtf8, IsTrue, ◌↔◌, ◌==◌, Vec}
+use Rattle.std.specs.declared.alloc.Global.{Global}
+use Rattle.std.proofs.lemmas.Bool.{eqb-true}
 use Rattle.std.specs.List.{flat_map}
 use Rattle.std.specs.BTreeSet.{insert_key}
 use Rattle.std.specs.declared.cmp.Ordering.{Ordering}
@@ -29,7 +31,7 @@ use Rattle.ef_forms.specs.Weight.{function_weight}
 use Rattle.ef_forms.specs.Built.{Each, IsBuilt, functions_in, functions_of}
 use Rattle.ef_parse.specs.Grammar.{SpellsAll, SpellsSome, SpellsClauses, one, and_more, one_clause}
 use Rattle.ef_module.specs.Forms.{SpellsForm, SpellsForms, SpellsModule, IsNarrowForm, a_module_name, an_export, a_function}
-use Rattle.ef_module.specs.Read.{ReadsModule}
+use Rattle.ef_module.specs.Read.{ReadsModule, lists}
 use Rattle.ef_lowmod.specs.Function.{IsLight, IsNarrowFunction, IsWhole, HasNoFault}
 use Rattle.ef_front.specs.declared.compiling.Lowered.{Lowered}
 use Rattle.ef_front.specs.declared.compiling.Compiled.{Compiled}
@@ -90,6 +92,10 @@ spell_light names source forms small scanned all m spelled =
     light_enough (length source) (functions_in m.forms) small (light names all source forms m scanned spelled)
 
 -- ---- no faults
+
+pub empty_list : {A : Type 0} (xs : List A) (b : Bool) → b ≡ (length xs == 0) → b ≡ true → xs ≡ []
+empty_list [] b is sure = refl
+empty_list (x ∷ xs) b is sure = let none : length (x ∷ xs) ≡ 0 = eqb-true (length (x ∷ xs)) 0 (sym is ∙ sure) in absurd (omega (arith, none))
 
 insert_some : (f : Fault) (xs : List Fault) → insert_fault f xs ≡ [] → ⊥
 insert_some f [] is = cc
@@ -178,6 +184,57 @@ taken_none all source (Tokens ts ∷ scanned) is faulty = absurd (no_faulty scan
     rest (f ∷ fs) h = (fs, h.1)
 taken_none all source (faulty_form fault ∷ []) is faulty = is.1
 taken_none all source (faulty_form fault ∷ next ∷ scanned) is faulty = absurd (no_faulty (faulty_form fault ∷ next ∷ scanned) is.0 is.1 faulty)
+
+-- one more form
+
+lists_more : (vs : List (Vec Token Global)) (v : Vec Token Global) → lists (vs ++ v ∷ []) ≡ lists vs ++ v.items ∷ []
+lists_more [] v = refl
+lists_more (w ∷ vs) v = ap (λ (l : List (List Token)). w.items ∷ l) (lists_more vs v)
+
+faulty_more : (scanned others : List ScannedForm) → HasFaulty scanned → HasFaulty (scanned ++ others)
+faulty_more [] others h = absurd h
+faulty_more (Tokens ts ∷ scanned) others h = faulty_more scanned others h
+faulty_more (faulty_form fault ∷ scanned) others h = tt
+
+faulty_last : (scanned : List ScannedForm) (fault : Fault) → HasFaulty (scanned ++ faulty_form fault ∷ [])
+faulty_last [] fault = tt
+faulty_last (Tokens ts ∷ scanned) fault = faulty_last scanned fault
+faulty_last (faulty_form other ∷ scanned) fault = tt
+
+are_more : (scanned : List ScannedForm) (forms : List (List Token)) (ts : Vec Token Global) → AreOf scanned forms → AreOf (scanned ++ Tokens ts ∷ []) (forms ++ ts.items ∷ [])
+are_more [] [] ts h = (refl, tt)
+are_more [] (f ∷ forms) ts h = absurd h
+are_more (Tokens us ∷ scanned) [] ts h = absurd h
+are_more (Tokens us ∷ scanned) (f ∷ forms) ts h = (h.0, are_more scanned forms ts h.1)
+are_more (faulty_form fault ∷ scanned) forms ts h = absurd h
+
+taken_more : (scanned : List ScannedForm) (b : Bool) (vs : List (Vec Token Global)) (ts : Vec Token Global) → AreTaken scanned b (lists vs) → AreTaken (scanned ++ Tokens ts ∷ []) b (lists (vs ++ ts ∷ []))
+taken_more scanned true vs ts h = faulty_more scanned (Tokens ts ∷ []) h
+taken_more scanned false vs ts h = subst (AreOf (scanned ++ Tokens ts ∷ [])) (sym (lists_more vs ts)) (are_more scanned (lists vs) ts h)
+
+pub one_taken : (scanned : List ScannedForm) (form : ScannedForm) (ts : Vec Token Global) (b b' : Bool) (vs ws : List (Vec Token Global)) → AreTaken scanned b (lists vs) → form ≡ Tokens ts → b' ≡ b → ws ≡ vs ++ ts ∷ []
+    → AreTaken (scanned ++ form ∷ []) b' (lists ws)
+one_taken scanned form ts b b' vs ws h is same longer =
+    subst (λ f. AreTaken (scanned ++ f ∷ []) b' (lists ws)) (sym is)
+    (subst (λ x. AreTaken (scanned ++ Tokens ts ∷ []) x (lists ws)) (sym same)
+    (subst (λ us. AreTaken (scanned ++ Tokens ts ∷ []) b (lists us)) (sym longer) (taken_more scanned b vs ts h)))
+
+pub one_faulty : (scanned : List ScannedForm) (form : ScannedForm) (fault : Fault) (b : Bool) (forms : List (List Token)) → form ≡ faulty_form fault → b ≡ true → AreTaken (scanned ++ form ∷ []) b forms
+one_faulty scanned form fault b forms is sure =
+    subst (λ f. AreTaken (scanned ++ f ∷ []) b forms) (sym is)
+    (subst (λ x. AreTaken (scanned ++ faulty_form fault ∷ []) x forms) (sym sure) (faulty_last scanned fault))
+
+pub taken_scans : (all : Texts) (source : List ℕ) (scanned : List ScannedForm) (b : Bool) (vs ws : List (Vec Token Global)) → IsScanned all 0 source scanned → AreTaken scanned b (lists vs) → b ≡ false → ws ≡ vs → ScansTo all 0 source (lists ws)
+taken_scans all source scanned true vs ws is are sure same = let bad : true ≡ false = sure in cc
+taken_scans all source scanned false vs ws is are sure same =
+    subst (λ us. ScansTo all 0 source (lists us)) (sym same) (taken_forms all source scanned (lists vs) is are)
+
+pub taken_foreign : (all : Texts) (source : List ℕ) (scanned : List ScannedForm) (b : Bool) (forms : List (List Token)) → IsScanned all 0 source scanned → AreTaken scanned b forms → b ≡ true → IsForeign 0 source
+taken_foreign all source scanned true forms is are sure = taken_none all source scanned is are
+taken_foreign all source scanned false forms is are sure = let bad : false ≡ true = sure in cc
+
+pub none_differ : (names : Texts) → names ≡ [] → AllDiffer names
+none_differ names none = subst AllDiffer (sym none) (λ i j text here there. cc)
 
 -- ---- the whole
 

@@ -1,5 +1,6 @@
 pub mod Added
 pub mod Chain
+pub mod Created
 pub mod Found
 pub mod Headline
 pub mod OfNames

@@ -85,10 +85,13 @@ fn produce<O: Output>(out: &Bytes, lowered: Lowered, output: &mut O) -> Result<(
     requires closed { (O.seen output.old).is_open ≡ false }
     ensures { Produces out.now (text_in lowered) (O.seen output.old) (O.seen output.new) result }
 {
-    match output.create(as_text(out)) {
-        Ok(()) => write_module(&lowered.names, &lowered.module, output, lowered.buffer),
-        Err(failed) => Err(failed),
-    }
+    let Lowered {
+        names,
+        module,
+        buffer,
+    } = lowered;
+    output.create(as_text(out))?;
+    write_module(&names, &module, output, buffer)
 }
 
 // Tries a line once.

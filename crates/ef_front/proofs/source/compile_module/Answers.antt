@@ -1,9 +1,7 @@
-use Rattle.std.proofs.Common.{◌≡◌, ◌≤◌, ◌∙◌, sym, subst, [], length, refl, arith}
-use Rattle.std.proofs.lemmas.Grind.{common_steps}
-use Rattle.std.proofs.lemmas.Bool.Decides.{nat_tests}
+use Rattle.std.proofs.Common.{sym, ◌∙◌}
 use Rattle.ef_base.specs.Laws.{extends_same}
 use Rattle.ef_forms.specs.Plain.{plain_module}
-use Rattle.ef_front.proofs.Chain.{no_faults, not_that}
+use Rattle.ef_front.proofs.Chain.{empty_list, no_faults, not_that}
 use Rattle.ef_front.proofs.source.compile_module.Goals as goal
 
 pub returns-then-not-branch : goal.returns-then-not-branch
@@ -14,7 +12,22 @@ pub lower-requires-clause-built : goal.lower-requires-clause-built
 lower-requires-clause-built c = λ all later. (c.in_ok-is_built.ensures all later).0 c.if-not-branch.false
 
 pub lower-requires-clause-no_fault : goal.lower-requires-clause-no_fault
-lower-requires-clause-no_fault c = ?
+lower-requires-clause-no_fault c =
+    let none = sym c.faults-2.ensures.same ∙ empty_list c.faults-2.result.now c.is_empty.result c.is_empty.ensures c.if-not-is_empty.false in
+    λ all later. no_faults all (plain_module c.args.«module».now) c.in_ok-faults.faults (c.in_ok-faults.ensures all later) none
 
 pub returns : goal.returns
-returns c = ?
+returns c =
+    let none = sym c.faults-2.ensures.same ∙ empty_list c.faults-2.result.now c.is_empty.result c.is_empty.ensures c.if-not-is_empty.false in
+    let here = extends_same c.args.names in
+    let later = extends_same c.lower.new.names in (
+      record {
+        built = (c.in_ok-is_built.ensures c.args.names here).0 c.if-not-branch.false;
+        are = sym none ∙ c.in_ok-faults.ensures c.args.names here;
+      },
+      record {
+        extends = c.in_ok-module.ensures.kept;
+        outline = c.in_ok-module.ensures.outlined c.lower.new.names later;
+        writable = (c.in_ok-module.ensures.of_table c.lower.new.names later, c.in_ok-buffer.ensures.items);
+      },
+    )

@@ -23,9 +23,11 @@ pub fn is_let_form(expr: &CoreExpr) -> bool
         CoreExpr::Var(_) | CoreExpr::Lit(_) | CoreExpr::FunName(_) => true,
         CoreExpr::Lets { steps, body } => are_let_forms(steps) && is_let_form(body),
         CoreExpr::Apply { target, args } => is_let_form(target) && are_simple(args),
-        CoreExpr::Call { module, function, args } => {
-            is_let_form(module) && is_let_form(function) && are_simple(args)
-        }
+        CoreExpr::Call {
+            module,
+            function,
+            args,
+        } => { is_let_form(module) && is_let_form(function) && are_simple(args) }
     }
 }
 

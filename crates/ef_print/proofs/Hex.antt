@@ -26,8 +26,8 @@ onto_front (suc k) n acc more =
     elim (small_or_not n) [
       | inl small ↦ onto_last k n (acc ++ more) small ∙ ap (λ l. l ++ more) (sym (onto_last k n acc small))
       | inr large ↦
-        onto_step k n (acc ++ more) large ∙ onto_front k (n / 16) (digit_glyph false (n % 16) ∷ acc) more
-        ∙ ap (λ l. l ++ more) (sym (onto_step k n acc large))
+          onto_step k n (acc ++ more) large ∙ onto_front k (n / 16) (digit_glyph false (n % 16) ∷ acc) more
+          ∙ ap (λ l. l ++ more) (sym (onto_step k n acc large))
     ]
 
 -- one more step changes nothing where the digits are enough
@@ -39,8 +39,8 @@ onto_more (suc k) n acc enough =
     elim (small_or_not n) [
       | inl small ↦ onto_last (suc k) n acc small ∙ sym (onto_last (suc (suc k)) n acc small)
       | inr large ↦
-        onto_step (suc k) n acc large ∙ onto_more k (n / 16) (digit_glyph false (n % 16) ∷ acc) (fewer k n enough)
-        ∙ sym (onto_step (suc (suc k)) n acc large)
+          onto_step (suc k) n acc large ∙ onto_more k (n / 16) (digit_glyph false (n % 16) ∷ acc) (fewer k n enough)
+          ∙ sym (onto_step (suc (suc k)) n acc large)
     ]
   where
     fewer : (k n : ℕ) → n < 16 ^ suc (suc k) → n / 16 < 16 ^ suc k

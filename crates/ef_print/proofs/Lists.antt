@@ -33,7 +33,7 @@ drop_at xs i x small read =
 pub leads_more : {A : Type 0} (old mid new : SinkView) (r q t : Result Last Failed) (all : List Piece) (f : A → List Piece) (xs : List A) (i : ℕ) (x : A) → Leads old r all mid q (flat_map f (drop i xs)) → i < length xs → x ≡ get_or xs i x → Prints mid q (f x) new t → Leads old r all new t (flat_map f (drop (i + 1) xs))
 leads_more old mid new r q t all f xs i x before small read one = record {
   by = λ end now rest.
-    before.by end now (prints_as mid end q now (f x ++ flat_map f (drop (i + 1) xs)) (flat_map f (drop i xs)) (ap (flat_map f) (sym (drop_at xs i x small read))) (prints_then mid new end q t now (f x) (flat_map f (drop (i + 1) xs)) one rest))
+      before.by end now (prints_as mid end q now (f x ++ flat_map f (drop (i + 1) xs)) (flat_map f (drop i xs)) (ap (flat_map f) (sym (drop_at xs i x small read))) (prints_then mid new end q t now (f x) (flat_map f (drop (i + 1) xs)) one rest));
 }
 
 pub leads_end : {A : Type 0} (old mid : SinkView) (r q : Result Last Failed) (all : List Piece) (f : A → List Piece) (xs : List A) (i : ℕ) → Leads old r all mid q (flat_map f (drop i xs)) → length xs ≤ i → Prints old r all mid q

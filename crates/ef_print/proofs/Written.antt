@@ -103,9 +103,10 @@ ends-append last (p ∷ ps) qs = ends-append (after_piece last p) ps qs
 
 pub prints_then : (old mid new : SinkView) (r q t : Result Last Failed) (ps qs : List Piece) → Prints old r ps mid q → Prints mid q qs new t → Prints old r (ps ++ qs) new t
 prints_then old mid new (Ok last) (Ok next) (Ok end) ps qs first second =
-    let behind : Wrote mid new (lay (ends last ps) qs) = subst (λ l. Wrote mid new (lay l qs)) first.1 second.0 in
-    (subst (Wrote old new) (sym (lay-append last ps qs)) (wrote_both old mid new (lay last ps) (lay (ends last ps) qs) first.0 behind),
-     second.1 ∙ ap (λ l. ends l qs) first.1 ∙ sym (ends-append last ps qs))
+    let behind : Wrote mid new (lay (ends last ps) qs) = subst (λ l. Wrote mid new (lay l qs)) first.1 second.0 in (
+      subst (Wrote old new) (sym (lay-append last ps qs)) (wrote_both old mid new (lay last ps) (lay (ends last ps) qs) first.0 behind),
+      second.1 ∙ ap (λ l. ends l qs) first.1 ∙ sym (ends-append last ps qs),
+    )
 prints_then old mid new (Ok last) (Ok next) (Err _) ps qs first second =
     let behind : Stopped mid new (lay (ends last ps) qs) = subst (λ l. Stopped mid new (lay l qs)) first.1 second in
     subst (Stopped old new) (sym (lay-append last ps qs)) (wrote_stopped old mid new (lay last ps) (lay (ends last ps) qs) first.0 behind)

@@ -9,7 +9,11 @@ use crate::bytes::write;
 use ef_io::{Failed, Sink};
 
 /// Writes the characters of a text, with escapes.
-pub fn write_escaped<G: Sink>(sink: &mut G, so_far: Result<(), Failed>, text: &str) -> Result<(), Failed>
+pub fn write_escaped<G: Sink>(
+    sink: &mut G,
+    so_far: Result<(), Failed>,
+    text: &str,
+) -> Result<(), Failed>
     requires { (G.seen sink.old).is_open ≡ true }
     ensures is_open { (G.seen sink.new).is_open ≡ true }
     ensures appends { Appends (G.seen sink.old) so_far (flat_map escaped (chars text.now)) (G.seen sink.new) result }
@@ -36,7 +40,11 @@ fn write_char<G: Sink>(sink: &mut G, so_far: Result<(), Failed>, c: char) -> Res
     }
 }
 
-fn write_hex_escape<G: Sink>(sink: &mut G, so_far: Result<(), Failed>, code: u32) -> Result<(), Failed>
+fn write_hex_escape<G: Sink>(
+    sink: &mut G,
+    so_far: Result<(), Failed>,
+    code: u32,
+) -> Result<(), Failed>
     requires { (G.seen sink.old).is_open ≡ true }
     ensures is_open { (G.seen sink.new).is_open ≡ true }
     ensures appends { Appends (G.seen sink.old) so_far (hex_escape code) (G.seen sink.new) result }

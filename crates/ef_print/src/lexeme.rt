@@ -37,7 +37,11 @@ pub fn print_break(so_far: Result<Last, Failed>) -> Result<Last, Failed>
     }
 }
 
-pub fn print_word<G: Sink>(sink: &mut G, so_far: Result<Last, Failed>, word: Word) -> Result<Last, Failed>
+pub fn print_word<G: Sink>(
+    sink: &mut G,
+    so_far: Result<Last, Failed>,
+    word: Word,
+) -> Result<Last, Failed>
     requires { (G.seen sink.old).is_open ≡ true }
     ensures is_open { (G.seen sink.new).is_open ≡ true }
     ensures prints { Prints (G.seen sink.old) so_far (put_word word) (G.seen sink.new) result }
@@ -48,7 +52,11 @@ pub fn print_word<G: Sink>(sink: &mut G, so_far: Result<Last, Failed>, word: Wor
     ended(written, Last::Other)
 }
 
-pub fn print_symbol<G: Sink>(sink: &mut G, so_far: Result<Last, Failed>, symbol: Symbol) -> Result<Last, Failed>
+pub fn print_symbol<G: Sink>(
+    sink: &mut G,
+    so_far: Result<Last, Failed>,
+    symbol: Symbol,
+) -> Result<Last, Failed>
     requires { (G.seen sink.old).is_open ≡ true }
     ensures is_open { (G.seen sink.new).is_open ≡ true }
     ensures prints { Prints (G.seen sink.old) so_far (put_sym symbol) (G.seen sink.new) result }
@@ -59,7 +67,11 @@ pub fn print_symbol<G: Sink>(sink: &mut G, so_far: Result<Last, Failed>, symbol:
     ended(written, after_symbol(symbol))
 }
 
-pub fn print_int<G: Sink>(sink: &mut G, so_far: Result<Last, Failed>, value: i128) -> Result<Last, Failed>
+pub fn print_int<G: Sink>(
+    sink: &mut G,
+    so_far: Result<Last, Failed>,
+    value: i128,
+) -> Result<Last, Failed>
     requires { (G.seen sink.old).is_open ≡ true }
     ensures is_open { (G.seen sink.new).is_open ≡ true }
     ensures prints { Prints (G.seen sink.old) so_far (Put (spec.Int value) ∷ []) (G.seen sink.new) result }
@@ -71,7 +83,11 @@ pub fn print_int<G: Sink>(sink: &mut G, so_far: Result<Last, Failed>, value: i12
     ended(written, Last::Callable)
 }
 
-fn print_arity<G: Sink>(sink: &mut G, so_far: Result<Last, Failed>, arity: u32) -> Result<Last, Failed>
+fn print_arity<G: Sink>(
+    sink: &mut G,
+    so_far: Result<Last, Failed>,
+    arity: u32,
+) -> Result<Last, Failed>
     requires { (G.seen sink.old).is_open ≡ true }
     ensures is_open { (G.seen sink.new).is_open ≡ true }
     ensures prints { Prints (G.seen sink.old) so_far (Put (spec.Int (pos arity)) ∷ []) (G.seen sink.new) result }
@@ -102,7 +118,11 @@ pub fn print_atom<G: Sink>(
     ended(written, Last::Callable)
 }
 
-fn print_numbered<G: Sink>(sink: &mut G, so_far: Result<Last, Failed>, number: u32) -> Result<Last, Failed>
+fn print_numbered<G: Sink>(
+    sink: &mut G,
+    so_far: Result<Last, Failed>,
+    number: u32,
+) -> Result<Last, Failed>
     requires { (G.seen sink.old).is_open ≡ true }
     ensures is_open { (G.seen sink.new).is_open ≡ true }
     ensures prints { Prints (G.seen sink.old) so_far (Put (spec.Var (95 ∷ decimal number)) ∷ []) (G.seen sink.new) result }

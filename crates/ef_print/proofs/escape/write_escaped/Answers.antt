@@ -15,9 +15,11 @@ pub loop-c-preserved : goal.loop-c-preserved
 loop-c-preserved g c =
     let held = c.loop-c.invariant in
     let parts = c.in-Some.ensures.steps.0 in
-    let whole = chars_past_char _ _ c.in-Some.c held.0 parts in
-    (IsUtf8-past_char _ _ c.in-Some.c held.0 parts, c.write_char-so_far.ensures.is_open,
-     λ new now rest. held.2 new now (appends_as _ _ _ _ _ _ (ap (flat_map escaped) (sym whole)) (appends_then _ _ _ _ _ _ _ _ c.write_char-so_far.ensures.appends rest)))
+    let whole = chars_past_char _ _ c.in-Some.c held.0 parts in (
+      IsUtf8-past_char _ _ c.in-Some.c held.0 parts,
+      c.write_char-so_far.ensures.is_open,
+      λ new now rest. held.2 new now (appends_as _ _ _ _ _ _ (ap (flat_map escaped) (sym whole)) (appends_then _ _ _ _ _ _ _ _ c.write_char-so_far.ensures.appends rest)),
+    )
 
 pub returns-clause-appends : goal.returns-clause-appends
 returns-clause-appends g c =

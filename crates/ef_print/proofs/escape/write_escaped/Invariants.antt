@@ -13,4 +13,4 @@ invariant-loop-c g l =
     IsUtf8 (chars_rest l.c-iterator)
     × ((g.G.Sink.seen l.sink).is_open ≡ true)
     × ((new : SinkView) (now : Result Unit Failed) → Appends (g.G.Sink.seen l.sink) l.so_far (flat_map escaped (chars (chars_rest l.c-iterator))) new now
-      → Appends (g.G.Sink.seen l.fn.sink) l.fn.so_far (flat_map escaped (chars l.fn.text)) new now)
+    → Appends (g.G.Sink.seen l.fn.sink) l.fn.so_far (flat_map escaped (chars l.fn.text)) new now)

@@ -52,10 +52,11 @@ print_all-print_expr-so_far-requires-in-loop-expr g t c =
     λ ks lives. (behind_falls the_size c.args.exprs.now _ _ t c.loop-expr-test.true c.expr-item.is c.decreases, (search rules, (c.print_symbol-so_far.ensures.is_open, named)))
 
 pub print_all-loop-expr-preserved : goal.print_all-loop-expr-preserved
-print_all-loop-expr-preserved g t c =
-    (c.print_expr-so_far-in-loop-expr.ensures.is_open,
-     leads_more _ _ _ _ _ _ _ (λ b. put_sym Comma ++ pieces c.args.names.now (plain b)) _ _ _ c.loop-expr.invariant.1 c.loop-expr-test.true c.expr-item.is
-     (prints_then _ _ _ _ _ _ _ _ c.print_symbol-so_far.ensures.prints c.print_expr-so_far-in-loop-expr.ensures.prints))
+print_all-loop-expr-preserved g t c = (
+  c.print_expr-so_far-in-loop-expr.ensures.is_open,
+  leads_more _ _ _ _ _ _ _ (λ b. put_sym Comma ++ pieces c.args.names.now (plain b)) _ _ _ c.loop-expr.invariant.1 c.loop-expr-test.true c.expr-item.is
+      (prints_then _ _ _ _ _ _ _ _ c.print_symbol-so_far.ensures.prints c.print_expr-so_far-in-loop-expr.ensures.prints),
+)
 
 pub print_all-returns-after-loop-expr-clause-prints : goal.print_all-returns-after-loop-expr-clause-prints
 print_all-returns-after-loop-expr-clause-prints g t c =
@@ -69,9 +70,10 @@ print_steps-print_step-so_far-requires g t c =
     λ ks lives. (item_falls step.the_size c.args.steps.now _ _ t c.loop-step-test.true c.step-item.is c.decreases, (search rules, (c.loop-step.invariant.0, (named.0, named.1))))
 
 pub print_steps-loop-step-preserved : goal.print_steps-loop-step-preserved
-print_steps-loop-step-preserved g t c =
-    (c.print_step-so_far.ensures.is_open,
-     leads_more _ _ _ _ _ _ _ (λ s. let_pieces c.args.names.now s.vars.items (plain s.value)) _ _ _ c.loop-step.invariant.1 c.loop-step-test.true c.step-item.is c.print_step-so_far.ensures.prints)
+print_steps-loop-step-preserved g t c = (
+  c.print_step-so_far.ensures.is_open,
+  leads_more _ _ _ _ _ _ _ (λ s. let_pieces c.args.names.now s.vars.items (plain s.value)) _ _ _ c.loop-step.invariant.1 c.loop-step-test.true c.step-item.is c.print_step-so_far.ensures.prints,
+)
 
 pub print_steps-returns-clause-prints : goal.print_steps-returns-clause-prints
 print_steps-returns-clause-prints g t c =

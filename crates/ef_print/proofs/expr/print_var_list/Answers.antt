@@ -6,10 +6,11 @@ use Rattle.ef_print.proofs.Written.{prints_as, prints_then}
 use Rattle.ef_print.proofs.expr.print_var_list.Goals as goal
 
 pub loop-var-preserved : goal.loop-var-preserved
-loop-var-preserved g c =
-    (c.print_var-so_far-in-loop-var.ensures.is_open,
-     leads_more _ _ _ _ _ _ _ (λ b. put_sym Comma ++ var_pieces c.args.names.now b) _ _ _ c.loop-var.invariant.1 c.loop-var-test.true (read_at _ _ _ c.loop-var-test.true)
-     (prints_then _ _ _ _ _ _ _ _ c.print_symbol-so_far.ensures.prints c.print_var-so_far-in-loop-var.ensures.prints))
+loop-var-preserved g c = (
+  c.print_var-so_far-in-loop-var.ensures.is_open,
+  leads_more _ _ _ _ _ _ _ (λ b. put_sym Comma ++ var_pieces c.args.names.now b) _ _ _ c.loop-var.invariant.1 c.loop-var-test.true (read_at _ _ _ c.loop-var-test.true)
+      (prints_then _ _ _ _ _ _ _ _ c.print_symbol-so_far.ensures.prints c.print_var-so_far-in-loop-var.ensures.prints),
+)
 
 pub returns-after-loop-var-clause-prints : goal.returns-after-loop-var-clause-prints
 returns-after-loop-var-clause-prints g c =

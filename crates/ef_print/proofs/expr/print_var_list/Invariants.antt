@@ -9,4 +9,4 @@ abbrev pub invariant-loop-var : goal.invariant-loop-var
 invariant-loop-var g l =
     ((g.G.Sink.seen l.sink).is_open ≡ true)
     × Leads (g.G.Sink.seen l.initial.sink) l.initial.so_far (flat_map (λ b. put_sym Comma ++ var_pieces l.names b) l.rest)
-      (g.G.Sink.seen l.sink) l.so_far (flat_map (λ b. put_sym Comma ++ var_pieces l.names b) (drop l.var-index l.rest))
+    (g.G.Sink.seen l.sink) l.so_far (flat_map (λ b. put_sym Comma ++ var_pieces l.names b) (drop l.var-index l.rest))

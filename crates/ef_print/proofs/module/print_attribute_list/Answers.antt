@@ -13,10 +13,11 @@ print_attribute-so_far-requires-in-loop-attribute-clause-named g c =
     c.loop-attribute-test.true (read_at _ _ _ c.loop-attribute-test.true)
 
 pub loop-attribute-preserved : goal.loop-attribute-preserved
-loop-attribute-preserved g c =
-    (c.print_attribute-so_far-in-loop-attribute.ensures.is_open,
-     leads_more _ _ _ _ _ _ _ (λ b. put_sym Comma ++ attribute_pieces c.args.names.now (plain_attribute b)) _ _ _ c.loop-attribute.invariant.1 c.loop-attribute-test.true (read_at _ _ _ c.loop-attribute-test.true)
-     (prints_then _ _ _ _ _ _ _ _ c.print_symbol-so_far.ensures.prints c.print_attribute-so_far-in-loop-attribute.ensures.prints))
+loop-attribute-preserved g c = (
+  c.print_attribute-so_far-in-loop-attribute.ensures.is_open,
+  leads_more _ _ _ _ _ _ _ (λ b. put_sym Comma ++ attribute_pieces c.args.names.now (plain_attribute b)) _ _ _ c.loop-attribute.invariant.1 c.loop-attribute-test.true (read_at _ _ _ c.loop-attribute-test.true)
+      (prints_then _ _ _ _ _ _ _ _ c.print_symbol-so_far.ensures.prints c.print_attribute-so_far-in-loop-attribute.ensures.prints),
+)
 
 pub returns-after-loop-attribute-clause-prints : goal.returns-after-loop-attribute-clause-prints
 returns-after-loop-attribute-clause-prints g c =

@@ -10,4 +10,4 @@ abbrev pub invariant-loop-attribute : goal.invariant-loop-attribute
 invariant-loop-attribute g l =
     ((g.G.Sink.seen l.sink).is_open ≡ true)
     × Leads (g.G.Sink.seen l.initial.sink) l.initial.so_far (flat_map (λ b. put_sym Comma ++ attribute_pieces l.names (plain_attribute b)) l.rest)
-      (g.G.Sink.seen l.sink) l.so_far (flat_map (λ b. put_sym Comma ++ attribute_pieces l.names (plain_attribute b)) (drop l.attribute-index l.rest))
+    (g.G.Sink.seen l.sink) l.so_far (flat_map (λ b. put_sym Comma ++ attribute_pieces l.names (plain_attribute b)) (drop l.attribute-index l.rest))

@@ -11,9 +11,10 @@ print_def-so_far-requires-clause-named g c =
     each_at (λ d. DefOf c.args.names.now (plain_def d)) c.args.defs.now _ _ (each-map (DefOf c.args.names.now) plain_def _ c.requires.named) c.loop-def-test.true c.def-item.is
 
 pub loop-def-preserved : goal.loop-def-preserved
-loop-def-preserved g c =
-    (c.print_def-so_far.ensures.is_open,
-     leads_more _ _ _ _ _ _ _ (λ d. def_pieces c.args.names.now (plain_def d)) _ _ _ c.loop-def.invariant.1 c.loop-def-test.true c.def-item.is c.print_def-so_far.ensures.prints)
+loop-def-preserved g c = (
+  c.print_def-so_far.ensures.is_open,
+  leads_more _ _ _ _ _ _ _ (λ d. def_pieces c.args.names.now (plain_def d)) _ _ _ c.loop-def.invariant.1 c.loop-def-test.true c.def-item.is c.print_def-so_far.ensures.prints,
+)
 
 pub returns-clause-prints : goal.returns-clause-prints
 returns-clause-prints g c =

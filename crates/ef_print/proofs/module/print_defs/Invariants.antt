@@ -9,4 +9,4 @@ abbrev pub invariant-loop-def : goal.invariant-loop-def
 invariant-loop-def g l =
     ((g.G.Sink.seen l.sink).is_open ≡ true)
     × Leads (g.G.Sink.seen l.fn.sink) l.fn.so_far (flat_map (λ d. def_pieces l.names (plain_def d)) l.defs)
-      (g.G.Sink.seen l.sink) l.so_far (flat_map (λ d. def_pieces l.names (plain_def d)) (drop l.def-index l.defs))
+    (g.G.Sink.seen l.sink) l.so_far (flat_map (λ d. def_pieces l.names (plain_def d)) (drop l.def-index l.defs))

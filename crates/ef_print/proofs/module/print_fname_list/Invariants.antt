@@ -9,4 +9,4 @@ abbrev pub invariant-loop-function : goal.invariant-loop-function
 invariant-loop-function g l =
     ((g.G.Sink.seen l.sink).is_open ≡ true)
     × Leads (g.G.Sink.seen l.initial.sink) l.initial.so_far (flat_map (λ b. put_sym Comma ++ fname_pieces l.names b) l.rest)
-      (g.G.Sink.seen l.sink) l.so_far (flat_map (λ b. put_sym Comma ++ fname_pieces l.names b) (drop l.function-index l.rest))
+    (g.G.Sink.seen l.sink) l.so_far (flat_map (λ b. put_sym Comma ++ fname_pieces l.names b) (drop l.function-index l.rest))

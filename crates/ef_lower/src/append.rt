@@ -43,7 +43,14 @@ pub fn append(
             let function = atom_of(target);
             let arity = args.len() as u32;
             let args = append_all(alloc, names, tables, args, env, fresh, steps)?;
-            Ok(apply(alloc, FName { name: function, arity }, args)?)
+            Ok(apply(
+                alloc,
+                FName {
+                    name: function,
+                    arity,
+                },
+                args,
+            )?)
         }
         Node::Remote {
             module,

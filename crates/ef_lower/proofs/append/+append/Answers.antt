@@ -48,9 +48,10 @@ append_all-append-requires t c =
     let before = c.loop-expr.invariant.enough in
     let next = take_weight c.args.exprs.now c.loop-expr.expr-index c.expr-item.result small c.expr-item.is in
     let within = take_within c.args.exprs.now (c.loop-expr.expr-index + 1) in
-    let all = c.requires.enough in
-    (item_falls the_size c.args.exprs.now _ _ t small c.expr-item.is c.decreases,
-     (ready_at _ _ _ c.args.exprs.now _ _ c.requires.ready small c.expr-item.is, (c.requires.env_of_table, omega arith)))
+    let all = c.requires.enough in (
+      item_falls the_size c.args.exprs.now _ _ t small c.expr-item.is c.decreases,
+      (ready_at _ _ _ c.args.exprs.now _ _ c.requires.ready small c.expr-item.is, (c.requires.env_of_table, omega arith)),
+    )
 
 pub append_all-hold-requires : goal.append_all-hold-requires
 append_all-hold-requires t c =

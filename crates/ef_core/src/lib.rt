@@ -7,6 +7,8 @@ mod layout;
 mod let_form;
 mod lexeme;
 mod module;
+#[cfg(test)]
+mod tests;
 mod tree;
 
 pub use env::{Bind, Env};

@@ -4,5 +4,7 @@
 mod append;
 mod lower;
 mod steps;
+#[cfg(test)]
+mod tests;
 
 pub use lower::{LoweredExpr, body, expression};

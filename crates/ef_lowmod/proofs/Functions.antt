@@ -3,6 +3,8 @@ use Rattle.std.proofs.Common.{◌≡◌, ◌≤◌, ◌<◌, ◌+◌, ◌*◌, �
 use Rattle.ef_base.specs.declared.name.Name.{Name}
 use Rattle.ef_base.specs.declared.fault.Place.{Place}
 use Rattle.ef_base.specs.Texts.{Texts}
+use Rattle.ef_core.specs.declared.tree.CoreVar.{CoreVar}
+use Rattle.ef_core.specs.declared.tree.CoreVar.TheVariants.{Numbered}
 use Rattle.ef_core.specs.declared.env.Bind.{Bind}
 use Rattle.ef_core.specs.Fresh.{most_variables}
 use Rattle.ef_forms.specs.declared.expr.Expr.{Expr}
@@ -17,7 +19,7 @@ use Rattle.ef_forms.specs.Ways.{no_names, names, all_names, body_faults, clauses
 use Rattle.ef_forms.specs.Weight.{all_weight, clauses_weight}
 use Rattle.ef_lower.proofs.Source.{some_weight}
 use Rattle.ef_lower.specs.Ready.{bound_names}
-use Rattle.ef_lowmod.specs.Function.{AreWhole, IsReadyFunction, IsVariable}
+use Rattle.ef_lowmod.specs.Function.{AreWhole, IsReadyFunction, IsVariable, variables_from}
 
 -- the first is a variable, and so are the others
 first_variable : (t : Tree) (ts : Trees) (ns : List Name) → AreVariables (more t ts) ns → IsVariable t × ((ms : List Name) × AreVariables ts ms)
@@ -126,3 +128,15 @@ parts_of all defined f p ps body is ready =
       no_faults = nothing_left (body_faults all body (all_names ps ∷ [])) [] faults;
       enough = let few = count_weight ps in omega arith;
     }
+
+-- ---- the first variables
+
+variables_push : (n k : ℕ) → variables_from n k ++ Numbered (n + k) ∷ [] ≡ variables_from n (suc k)
+variables_push n zero = ap (λ m. Numbered m ∷ []) (let same : n + 0 ≡ n = omega arith in same)
+variables_push n (suc k) =
+    ap (λ m. Numbered n ∷ (variables_from (n + 1) k ++ Numbered m ∷ [])) (let same : n + suc k ≡ n + 1 + k = omega arith in same)
+    ∙ ap (λ vs. Numbered n ∷ vs) (variables_push (n + 1) k)
+
+pub one_more_variable : (vs new : List CoreVar) (v : CoreVar) (n k : ℕ) → new ≡ vs ++ v ∷ [] → vs ≡ variables_from n k → v ≡ Numbered (n + k) → new ≡ variables_from n (k + 1)
+one_more_variable vs new v n k pushed are is =
+    pushed ∙ (λ i. are i ++ is i ∷ []) ∙ variables_push n k ∙ ap (variables_from n) (sym (add-one k))

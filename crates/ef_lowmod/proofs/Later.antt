@@ -2,10 +2,9 @@
 use Rattle.std.proofs.Common.{List, [], ◌∷◌}
 use Rattle.ef_base.specs.Laws.{has_later}
 use Rattle.ef_base.specs.Texts.{Extends, Texts}
-use Rattle.ef_core.specs.declared.tree.CoreVar.{CoreVar}
-use Rattle.ef_core.specs.declared.tree.CoreVar.TheVariants.{Numbered, Named}
-use Rattle.ef_core.specs.OfTable.{CoreOf, CoresOf, DefOf, Each, LitOf, StepsOf, VarOf}
-use Rattle.ef_core.specs.Tree.{CoreTree, CoreTrees, CoreSteps, DefTree, LitTree, int, atom, var, lit, fun_name, lets, apply, call, end, more, done, step}
+use Rattle.ef_core.proofs.Later.{core_later, def_later}
+use Rattle.ef_core.specs.OfTable.{DefOf, Each}
+use Rattle.ef_core.specs.Tree.{CoreTree, DefTree}
 use Rattle.ef_forms.specs.OfTable.{ClausesOf, GuardsOf, ShapeOf, TreeOf, TreesOf}
 use Rattle.ef_forms.specs.Tree as s
 use Rattle.ef_forms.specs.Tree.{Clauses, FunctionTree, Guards, Shape, Tree, Trees}
@@ -13,47 +12,15 @@ use Rattle.ef_lower.specs.Lowers.{IsLowered}
 use Rattle.ef_lowmod.specs.Function.{AreLowered, IsLoweredFunction}
 
 module _ (now all : Texts) (later : Extends now all) where
-  var_later : (v : CoreVar) → VarOf now v → VarOf all v
-  var_later (Numbered n) is = tt
-  var_later (Named n) is = has_later now all n is later
-
-  vars_later : (vs : List CoreVar) → Each (VarOf now) vs → Each (VarOf all) vs
-  vars_later [] is = tt
-  vars_later (v ∷ vs) is = (var_later v is.0, vars_later vs is.1)
-
-  lit_later : (l : LitTree) → LitOf now l → LitOf all l
-  lit_later (int i) is = tt
-  lit_later (atom n) is = has_later now all n is later
-
-  mutual
-    core_later : (e : CoreTree) → CoreOf now e → CoreOf all e
-    core_later (var v) is = var_later v is
-    core_later (lit l) is = lit_later l is
-    core_later (fun_name f) is = has_later now all f.name is later
-    core_later (lets ss e) is = (steps_later ss is.0, core_later e is.1)
-    core_later (apply f es) is = (core_later f is.0, cores_later es is.1)
-    core_later (call m f es) is = (core_later m is.0, core_later f is.1, cores_later es is.2)
-
-    cores_later : (es : CoreTrees) → CoresOf now es → CoresOf all es
-    cores_later end is = tt
-    cores_later (more e es) is = (core_later e is.0, cores_later es is.1)
-
-    steps_later : (ss : CoreSteps) → StepsOf now ss → StepsOf all ss
-    steps_later done is = tt
-    steps_later (step vs e ss) is = (vars_later vs is.0, core_later e is.1, steps_later ss is.2)
-
   lowered_later : (e : CoreTree) → IsLowered now e → IsLowered all e
-  lowered_later e is = record { let_form = is.let_form; normal = is.normal; of_table = core_later e is.of_table }
-
-  def_later : (d : DefTree) → DefOf now d → DefOf all d
-  def_later d is = (has_later now all d.name.name is.0 later, vars_later d.params is.1, core_later d.body is.2)
+  lowered_later e is = record { let_form = is.let_form; normal = is.normal; of_table = core_later now all later e is.of_table }
 
   function_later : (f : FunctionTree) (d : DefTree) → IsLoweredFunction now f d → IsLoweredFunction all f d
   function_later f d is = record {
     name = is.name;
     parameters = is.parameters;
     body = lowered_later d.body is.body;
-    of_table = def_later d is.of_table;
+    of_table = def_later now all later d is.of_table;
   }
 
   pub functions_later : (fs : List FunctionTree) (ds : List DefTree) → AreLowered now fs ds → AreLowered all fs ds

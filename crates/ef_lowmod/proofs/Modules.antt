@@ -100,9 +100,10 @@ functions_of_later now all later (f ∷ fs) is =
 
 all_ready : (all : Texts) (defined : List FunctionName) (fs : List FunctionTree) → Each (IsBuiltFunction all defined) fs → Each IsNarrowFunction fs → Each IsWhole fs → Each IsLight fs → Each (FunctionOf all) fs → Each (HasNoFault all) fs → Each (IsReadyFunction all defined) fs
 all_ready all defined [] built narrow whole light of_table no_fault = tt
-all_ready all defined (f ∷ fs) built narrow whole light of_table no_fault =
-    (record { built = built.0; narrow = narrow.0; whole = whole.0; light = light.0; of_table = of_table.0; no_fault = no_fault.0 },
-     all_ready all defined fs built.1 narrow.1 whole.1 light.1 of_table.1 no_fault.1)
+all_ready all defined (f ∷ fs) built narrow whole light of_table no_fault = (
+  record { built = built.0; narrow = narrow.0; whole = whole.0; light = light.0; of_table = of_table.0; no_fault = no_fault.0 },
+  all_ready all defined fs built.1 narrow.1 whole.1 light.1 of_table.1 no_fault.1,
+)
 
 pub ready_functions : (now all : Texts) (defined : List FunctionName) (forms : List PlacedTree) → Extends now all → FormsOf now forms → Each (IsBuiltFunction all defined) (functions_in forms) → Each IsNarrowFunction (functions_in forms) → Each IsWhole (functions_in forms) → Each IsLight (functions_in forms) → Each (HasNoFault all) (functions_in forms) → Each (IsReadyFunction all defined) (functions_in forms)
 ready_functions now all defined forms later of_table built narrow whole light no_fault =
@@ -181,10 +182,11 @@ pub outline_named : (all : Texts) (m : ModuleTree) (t : CoreModuleTree) → Outl
 outline_named all m t outline named exported =
     let info = outline.are_fixed.module_info.within in
     let erlang = outline.are_fixed.erlang.within in
-    let get = outline.are_fixed.get_module_info.within in
-    (subst (HasName all) (sym outline.name) named,
-     subst (core.Each (FNameOf all)) (sym outline.exports) (exported_named all (is_other all) (exports_in m.forms) outline.fixed.module_info exported info),
-     subst (core.Each (AttributeOf all)) (sym outline.attributes) tt,
-     subst (core.Each (DefOf all)) (sym outline.defs)
-       (defs_named all outline.functions (info_def outline.fixed m.name ∷ item_def outline.fixed m.name ∷ []) (each_def all (functions_in m.forms) outline.functions outline.in_order)
-       ((info, tt, (erlang, get, (named, tt))), ((info, (tt, tt), (erlang, get, (named, (tt, tt)))), tt))))
+    let get = outline.are_fixed.get_module_info.within in (
+      subst (HasName all) (sym outline.name) named,
+      subst (core.Each (FNameOf all)) (sym outline.exports) (exported_named all (is_other all) (exports_in m.forms) outline.fixed.module_info exported info),
+      subst (core.Each (AttributeOf all)) (sym outline.attributes) tt,
+      subst (core.Each (DefOf all)) (sym outline.defs)
+          (defs_named all outline.functions (info_def outline.fixed m.name ∷ item_def outline.fixed m.name ∷ []) (each_def all (functions_in m.forms) outline.functions outline.in_order)
+          ((info, tt, (erlang, get, (named, tt))), ((info, (tt, tt), (erlang, get, (named, (tt, tt)))), tt))),
+    )

@@ -1,6 +1,8 @@
 -- Functions that can be lowered, and what they are lowered to.
-use Rattle.std.specs.Prelude.{ℕ, ◌≡◌, ◌≤◌, ◌*◌, List, [], ◌∷◌, ◌++◌, length}
+use Rattle.std.specs.Prelude.{ℕ, zero, suc, ◌+◌, ◌≡◌, ◌≤◌, ◌*◌, List, [], ◌∷◌, ◌++◌}
 use Rattle.ef_base.specs.Texts.{Texts}
+use Rattle.ef_core.specs.declared.tree.CoreVar.{CoreVar}
+use Rattle.ef_core.specs.declared.tree.CoreVar.TheVariants.{Numbered}
 use Rattle.ef_core.specs.declared.tree.FName.{FName}
 use Rattle.ef_core.specs.Fresh.{most_variables}
 use Rattle.ef_core.specs.OfTable.{DefOf}
@@ -42,10 +44,15 @@ pub record IsReadyFunction (all : Texts) (defined : List FunctionName) (f : Func
 abbrev pub fname_of : FunctionTree → FName
 fname_of f = record { name = f.name; arity = f.arity }
 
--- a function of this name and arity, with as many parameters, and a body in let form
+-- so many variables, from this number on
+abbrev pub variables_from : ℕ → ℕ → List CoreVar
+variables_from n zero = []
+variables_from n (suc k) = Numbered n ∷ variables_from (n + 1) k
+
+-- a function of this name and arity, whose parameters are the first variables, and whose body is in let form
 pub record IsLoweredFunction (all : Texts) (f : FunctionTree) (d : DefTree) : Type 0 where
   pub name : d.name ≡ fname_of f
-  pub parameters : length d.params ≡ f.arity
+  pub parameters : d.params ≡ variables_from 0 f.arity
   pub body : IsLowered all d.body
   pub of_table : DefOf all d
 

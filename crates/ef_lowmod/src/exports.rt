@@ -10,7 +10,11 @@ use ef_forms::FunctionName;
 use std::alloc::Global;
 
 /// The functions, other than `module_info/0` and `/1`, and then these two.
-pub fn exports(alloc: Global, fixed: Fixed, functions: &[FunctionName]) -> Result<Vec<FName>, NoMemory>
+pub fn exports(
+    alloc: Global,
+    fixed: Fixed,
+    functions: &[FunctionName],
+) -> Result<Vec<FName>, NoMemory>
     ensures { IfOk result (λ v. v.items ≡ map (λ f. fname f.name f.arity) (filter (is_other_by fixed) functions.now) ++ (fname fixed.module_info 0 ∷ fname fixed.module_info 1 ∷ [])) }
 {
     let mut all = Vec::new(alloc);

@@ -10,7 +10,7 @@ ghost use Rattle.ef_forms.specs.Plain.{plain, plain_all, plain_function};
 ghost use Rattle.ef_forms.specs.Tree.{tree, var};
 ghost use Rattle.ef_forms.specs.Ways.{all_names};
 ghost use Rattle.ef_lower.specs.Ready.{bound_names};
-ghost use Rattle.ef_lowmod.specs.Function.{IsLoweredFunction, IsReadyFunction, IsVariable};
+ghost use Rattle.ef_lowmod.specs.Function.{IsLoweredFunction, IsReadyFunction, IsVariable, variables_from};
 
 use ef_base::{Name, Names, NoMemory};
 use ef_core::{CoreDef, CoreVar, Env, FName, Fresh};
@@ -55,7 +55,7 @@ fn parameters(
     requires enough { fresh.old + length patterns.now ≤ most_variables }
     requires no_names { env.old ≡ [] }
     ensures drawn { IfOk result (λ vs. fresh.new ≡ fresh.old + length patterns.now) }
-    ensures number { IfOk result (λ vs. length vs.items ≡ length patterns.now) }
+    ensures variables { IfOk result (λ vs. vs.items ≡ variables_from fresh.old (length patterns.now)) }
     ensures bound { IfOk result (λ vs. (y : ℕ) → bound_names env.new y ≡ all_names (plain_all patterns.now) y) }
     ensures of_table { IfOk result (λ vs. (texts : Texts) → Each (VarOf texts) vs.items × Each (BindOf texts) env.new) }
 {

@@ -6,5 +6,4 @@ mod function;
 mod info;
 mod module;
 
-
 pub use module::lower;

@@ -7,5 +7,7 @@ mod expr;
 mod gap;
 mod lexeme;
 mod module;
+#[cfg(test)]
+mod tests;
 
 pub use module::print;

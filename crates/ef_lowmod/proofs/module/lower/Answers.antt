@@ -17,8 +17,8 @@ lower_functions-requires c = λ all later.
     let whole = extends_later c.in_ok-fixed.ensures.kept later in
     subst (λ l. Each (IsReadyFunction all c.args.tables.now.functions.items) (functions_in (map plain_placed l))) (sym c.deref-2.ensures.value)
     (ready_functions c.args.names.now all c.args.tables.now.functions.items forms whole c.requires.of_table.1
-      (subst (λ d. Each (IsBuiltFunction all d) (functions_in forms)) (sym c.requires.functions) (c.requires.built all whole).bodies)
-      c.requires.narrow c.requires.whole c.requires.light (c.requires.no_fault all whole))
+    (subst (λ d. Each (IsBuiltFunction all d) (functions_in forms)) (sym c.requires.functions) (c.requires.built all whole).bodies)
+    c.requires.narrow c.requires.whole c.requires.light (c.requires.no_fault all whole))
 
 pub returns-clause-outlined : goal.returns-clause-outlined
 returns-clause-outlined c = λ all later.
@@ -32,7 +32,7 @@ returns-clause-outlined c = λ all later.
       are_fixed = c.in_ok-fixed.ensures.fixed all from_fixed;
       name = refl;
       exports = c.in_ok-exports.ensures
-        ∙ ap (λ fs. map (λ f. fname f.name f.arity) fs ++ (fname fixed.module_info 0 ∷ fname fixed.module_info 1 ∷ []))
+          ∙ ap (λ fs. map (λ f. fname f.name f.arity) fs ++ (fname fixed.module_info 0 ∷ fname fixed.module_info 1 ∷ []))
           (ap (filter (is_other_by fixed)) (c.deref.ensures.value ∙ c.requires.exports) ∙ same);
       attributes = ap (map plain_attribute) c.new.ensures.items;
       functions = map plain_def c.in_ok-defs.defs.items;

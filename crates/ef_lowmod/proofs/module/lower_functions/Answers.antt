@@ -11,6 +11,7 @@ pub returns-in_err-lower_form-clause-kept : goal.returns-in_err-lower_form-claus
 returns-in_err-lower_form-clause-kept c = extends_later c.loop-placed.invariant.0 c.in_err-lower_form.ensures.kept
 
 pub loop-placed-preserved : goal.loop-placed-preserved
-loop-placed-preserved c =
-    (extends_later c.loop-placed.invariant.0 c.in_ok-lower_form.ensures.kept,
-     form_lowered _ _ c.args.forms.now _ _ _ _ c.in_ok-lower_form.ensures.kept c.loop-placed.invariant.1 c.loop-placed-test.true c.placed-item.is c.in_ok-lower_form.ensures.lowered)
+loop-placed-preserved c = (
+  extends_later c.loop-placed.invariant.0 c.in_ok-lower_form.ensures.kept,
+  form_lowered _ _ c.args.forms.now _ _ _ _ c.in_ok-lower_form.ensures.kept c.loop-placed.invariant.1 c.loop-placed-test.true c.placed-item.is c.in_ok-lower_form.ensures.lowered,
+)

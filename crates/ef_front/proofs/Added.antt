@@ -33,10 +33,12 @@ forms_more names forms i f old found found' small read before here =
     record {
       of = (subst (λ l. FormsOf names (map plain_placed l)) at before.of).1;
       left = λ all later b is.
-        let was = before.left all later b is in
-        (was.0 ++ form_faults all (plain_form f.form), here all later was.0 was.1,
-         append_assoc was.0 (form_faults all (plain_form f.form)) (forms_faults all (map plain_placed (drop (i + 1) forms)))
-         ∙ ap (λ l. was.0 ++ forms_faults all (map plain_placed l)) (sym at) ∙ was.2);
+          let was = before.left all later b is in (
+            was.0 ++ form_faults all (plain_form f.form),
+            here all later was.0 was.1,
+            append_assoc was.0 (form_faults all (plain_form f.form)) (forms_faults all (map plain_placed (drop (i + 1) forms)))
+                ∙ ap (λ l. was.0 ++ forms_faults all (map plain_placed l)) (sym at) ∙ was.2,
+          );
     }
 
 pub first_form : (names : Texts) (forms : List PlacedForm) (i : ℕ) (f : PlacedForm) → i < length forms → f ≡ get_or forms i f → FormsOf names (map plain_placed (drop i forms)) → FormOf names (plain_form f.form)

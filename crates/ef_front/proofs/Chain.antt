@@ -250,10 +250,11 @@ forms_compiled names m forms (Faulty faults) reads is = (is.0, by_case is.1)
 pub text_compiled : (names : Texts) (source : List ℕ) (forms : List (List Token)) (result : Compiled) → AllDiffer names → (IsBlank source → ⊥) → ScansTo names 0 source forms
     → IsCompiledForms names forms result → IsCompiledText source result
 text_compiled names source forms (Module l) differ dark scanned is =
-    let origin : IsSource names source is.0 = record { differ = differ; forms = forms; scanned = scanned; spelled = is.1; built = is.2.built } in
-    (of_module names is.0 origin is.2.are,
-     record { all = names; module_tree = is.0; spelled = origin; later = l.names; extends = is.3.extends; written = record { core = _; outline = is.3.outline; is = refl } },
-     is.3.writable)
+    let origin : IsSource names source is.0 = record { differ = differ; forms = forms; scanned = scanned; spelled = is.1; built = is.2.built } in (
+      of_module names is.0 origin is.2.are,
+      record { all = names; module_tree = is.0; spelled = origin; later = l.names; extends = is.3.extends; written = record { core = _; outline = is.3.outline; is = refl } },
+      is.3.writable,
+    )
 text_compiled names source forms (Faulty faults) differ dark scanned is = (by_case is.1, is.0)
   where
     by_case : ((m : ModuleTree) × SpellsModule names m forms × IsFaulty names m faults) ⊎ (((m : ModuleTree) → SpellsModule names m forms → IsBuilt names m → ⊥) × (faults ≡ at_start 500 [] ∷ []))
@@ -271,9 +272,10 @@ foreign_compiled source faults dark foreign is =
 
 pub not_that : (names : Texts) (m : ModuleTree) (faults : List Fault) (b : Bool) → ((all : Texts) → Extends names all → IsTrue b ↔ IsBuilt all m) → b ≡ false → faults ≡ at_start 500 [] ∷ []
     → IsCompiledModule names m (Faulty faults)
-not_that names m faults b tells is are =
-    (λ none. let bad : [] ≡ at_start 500 [] ∷ [] = sym none ∙ are in cc,
-     inr (λ built. let bad : false ≡ true = sym is ∙ (tells names (extends_same names)).1 built in cc, are))
+not_that names m faults b tells is are = (
+  λ none. let bad : [] ≡ at_start 500 [] ∷ [] = sym none ∙ are in cc,
+  inr (λ built. let bad : false ≡ true = sym is ∙ (tells names (extends_same names)).1 built in cc, are),
+)
 
 pub no_that : (names : Texts) (forms : List (List Token)) (faults : List Fault) → ((all : Texts) → Extends names all → (m : ModuleTree) → SpellsModule all m forms → ⊥) → faults ≡ at_start 500 [] ∷ []
     → IsCompiledForms names forms (Faulty faults)

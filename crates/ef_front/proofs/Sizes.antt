@@ -68,8 +68,8 @@ forms_light all (f ∷ fs) [] spelled = absurd spelled
 forms_light all (f ∷ fs) (ts ∷ tss) spelled =
     let all_of : length (ts ++ joined tss) ≡ length ts + length (joined tss) = length-append ts (joined tss) in
     light_both (length (ts ++ joined tss)) (functions_of f.form) (functions_in fs)
-      (light_more (length ts) _ _ (omega arith) (form_light all f.form ts spelled.1))
-      (light_more (length (joined tss)) _ _ (omega arith) (forms_light all fs tss spelled.3))
+    (light_more (length ts) _ _ (omega arith) (form_light all f.form ts spelled.1))
+    (light_more (length (joined tss)) _ _ (omega arith) (forms_light all fs tss spelled.3))
 
 -- ---- a token takes a character
 

@@ -58,4 +58,4 @@ IsCompiledForms names forms (Module l) = (m : ModuleTree) × SpellsModule names 
 IsCompiledForms names forms (Faulty faults) =
     (faults ≢ [])
     × (((m : ModuleTree) × SpellsModule names m forms × IsFaulty names m faults)
-      ⊎ (((m : ModuleTree) → SpellsModule names m forms → IsBuilt names m → ⊥) × IsNotBuilt faults))
+    ⊎ (((m : ModuleTree) → SpellsModule names m forms → IsBuilt names m → ⊥) × IsNotBuilt faults))

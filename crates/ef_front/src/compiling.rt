@@ -59,7 +59,10 @@ pub fn compile<S: Sources>(alloc: Global, sources: &mut S, path: &Bytes) -> Resu
         Ok(()) => Ok(compile_text(alloc, &source)?),
         Err(ReadRefusal::Absent) => Ok(Compiled::Faulty(absent(alloc, path)?)),
         Err(ReadRefusal::TooLarge) => Ok(Compiled::Faulty(too_large(alloc)?)),
-        Err(ReadRefusal::Failed) => Err(Stop::ReadFault(Bytes::from_slice(alloc, path.as_slice())?)),
+        Err(ReadRefusal::Failed) => Err(Stop::ReadFault(Bytes::from_slice(
+            alloc,
+            path.as_slice(),
+        )?)),
         Err(ReadRefusal::NoMemory) => Err(Stop::NoMemory),
     }
 }

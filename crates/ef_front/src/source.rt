@@ -81,11 +81,7 @@ fn compile_forms(
     }
 }
 
-fn compile_module(
-    alloc: Global,
-    mut names: Names,
-    module: &Module,
-) -> Result<Compiled, NoMemory>
+fn compile_module(alloc: Global, mut names: Names, module: &Module) -> Result<Compiled, NoMemory>
     requires of_table { ModuleOf names (plain_module «module».now) }
     requires narrow { Each IsNarrowFunction (functions_in (plain_module «module».now).forms) }
     requires whole { Each IsWhole (functions_in (plain_module «module».now).forms) }

@@ -6,6 +6,8 @@ use std::alloc::Global;
 use std::process::Abort;
 use std::test::Fail;
 
+mod modules;
+
 // A run: its words, the calls that fail on the sources, the output and the diagnostic sink, and what it comes to.
 #[derive(Drop)]
 struct Case {

@@ -1,0 +1,268 @@
+// Whole modules: their faults, and the texts written for them.
+use super::bytes;
+use crate::erlfront;
+use ef_base::Bytes;
+use ef_io::{MemoryFile, MemoryOutput, MemorySink, MemorySources, Status};
+use std::alloc::Global;
+use std::process::Abort;
+use std::test::Fail;
+
+// The status of a run for one file, what it printed, and what it created.
+#[derive(Drop)]
+struct Outcome {
+    status: Status,
+    diag: MemorySink,
+    output: MemoryOutput,
+}
+
+// The calls that fail on the sources, the output and the diagnostic sink (0 for none), and the room of the output.
+#[derive(Drop)]
+struct Trouble {
+    failing: [u64; 3],
+    room: usize,
+}
+
+const NO_TROUBLE: Trouble = Trouble {
+    failing: [0, 0, 0],
+    room: 100_000,
+};
+
+fn run(alloc: Global, path: &str, source: Bytes, trouble: &Trouble) -> Result<Outcome, Fail> {
+    let [read, written, printed] = trouble.failing;
+    let mut files = Vec::new(alloc);
+    files.push(MemoryFile {
+        path: bytes(alloc, path)?,
+        content: source,
+    })?;
+    let mut words = Vec::new(alloc);
+    words.push(String::from_str(alloc, path)?)?;
+    let mut sources = MemorySources::new(alloc, files, vec![in alloc; read]?)?;
+    let mut output = MemoryOutput::new(alloc, trouble.room, vec![in alloc; written]?)?;
+    let mut diag = MemorySink::new(alloc, 1000, vec![in alloc; printed]?)?;
+    let status = erlfront(alloc, &words, &mut sources, &mut output, &mut diag);
+    Ok(Outcome {
+        status,
+        diag,
+        output,
+    })
+}
+
+const IDENTITY: &str = "-module(a).\n-export([f/1]).\nf(X) -> X.\n";
+
+const IDENTITY_TEXT: &str = "module 'a' ['f'/1, 'module_info'/0, 'module_info'/1]
+attributes []
+'f'/1 = fun (_0) -> _0
+'module_info'/0 = fun () -> call 'erlang':'get_module_info'('a')
+'module_info'/1 = fun (_0) -> call 'erlang':'get_module_info'('a', _0)
+end
+";
+
+// Sources and the texts written for them.
+const TEXTS: &[(&str, &str)] = &[
+    (IDENTITY, IDENTITY_TEXT),
+    (
+        "-module(a).\n-export([module_info/0, f/0]).\nf() -> module_info().\n",
+        "module 'a' ['f'/0, 'module_info'/0, 'module_info'/1]
+attributes []
+'f'/0 = fun () -> apply 'module_info'/0()
+'module_info'/0 = fun () -> call 'erlang':'get_module_info'('a')
+'module_info'/1 = fun (_0) -> call 'erlang':'get_module_info'('a', _0)
+end
+",
+    ),
+    (
+        "-module(a).\n-export([f/1]).\nf(X) -> k(g:h(X)).\nk(Y) -> g:i(Y, a).\n",
+        "module 'a' ['f'/1, 'module_info'/0, 'module_info'/1]
+attributes []
+'f'/1 = fun (_0) -> let _1 = call 'g':'h'(_0) in
+apply 'k'/1(_1)
+'k'/1 = fun (_0) -> call 'g':'i'(_0, 'a')
+'module_info'/0 = fun () -> call 'erlang':'get_module_info'('a')
+'module_info'/1 = fun (_0) -> call 'erlang':'get_module_info'('a', _0)
+end
+",
+    ),
+];
+
+#[test]
+fn texts(rt: HostRuntime) -> Result<(), Fail> {
+    let alloc = rt.alloc();
+    for (source, text) in TEXTS {
+        let run = run(alloc, "a.erl", bytes(alloc, source)?, &NO_TROUBLE)?;
+        assert_eq!(rt; run.status, Status::Written, "{}", source);
+        assert_eq!(rt; run.diag.bytes(), "".as_bytes());
+        let Some((path, created)) = run.output.created() else {
+            panic!(rt; "nothing created for {}", source)
+        };
+        assert_eq!(rt; path, "a.core".as_bytes());
+        assert_eq!(rt; created, text.as_bytes(), "{}", source);
+    }
+    Ok(())
+}
+
+const NOT_BUILT: &str = "r.erl:1:1: E500: not built\n";
+
+// Modules, and the lines of their faults; without a line, the text is written.
+const MODULES: &[(&str, &str)] = &[
+    (
+        "-module(r).\n-export([f/1]).\nf(X) -> Y.\n",
+        "r.erl:3:9: E451: variable Y is unbound\n",
+    ),
+    (
+        "-module(r).\n-export([f/1]).\nf(X) -> Y, Y.\n",
+        "r.erl:3:9: E451: variable Y is unbound\n",
+    ),
+    (
+        "-module(r).\n-export([f/1]).\nf(X) -> k(Y, Y).\nk(A, B) -> A.\n",
+        "r.erl:3:11: E451: variable Y is unbound\nr.erl:3:14: E451: variable Y is unbound\n",
+    ),
+    (
+        "-module(r).\n-export([f/1]).\nk(A) -> Z.\nf(X) ->\n  Y.\n",
+        "r.erl:3:9: E451: variable Z is unbound\nr.erl:5:3: E451: variable Y is unbound\n",
+    ),
+    (
+        "\0-module\0(\u{a0}r).\t-export([f/1]).\x0b\u{80}f(X) -> X.",
+        "",
+    ),
+    (
+        "-module(r).\n-export([f/0]).\nf() -> module_info(), module_info(f).\n",
+        "",
+    ),
+    (
+        "-module(r).\n-export([f/0]).\nf() -> 170141183460469231731687303715884105727.\n",
+        "",
+    ),
+    ("-module(r).\n-export([f/1]).\nf(X) -> {X}.\n", NOT_BUILT),
+    ("-module(r).\n-export([f/0]).\nf() -> 1.5.\n", NOT_BUILT),
+    ("-module(r).\n-export([f/0]).\nf() -> #{}.\n", NOT_BUILT),
+    ("-module(r).\n-export([f/0]).\nf() -> 'a'.\n", NOT_BUILT),
+    ("-module(r).\n-export([f/0]).\nf() -> a", NOT_BUILT),
+    ("-module(r).\n-export([f/2]).\nf(X, X) -> X.\n", NOT_BUILT),
+    ("-module(r).\n-export([f/0]).\nf() -> k().\n", NOT_BUILT),
+    ("-module(r).\n-export([f/0, f/0]).\nf() -> a.\n", NOT_BUILT),
+    (
+        "-module(r).\n-export([f/0]).\nf() -> a.\nf() -> b.\n",
+        NOT_BUILT,
+    ),
+    ("-module(r).\n-export([f/0, g/0]).\nf() -> a.\n", NOT_BUILT),
+    (
+        "-module(r).\n-export([f/0]).\nf() -> a.\nmodule_info() -> b.\n",
+        NOT_BUILT,
+    ),
+    (
+        "-module(r).\n-export([f/0]).\nf() -> erlang:f().\n",
+        NOT_BUILT,
+    ),
+];
+
+#[test]
+fn faults(rt: HostRuntime) -> Result<(), Fail> {
+    let alloc = rt.alloc();
+    for (source, printed) in MODULES {
+        check(&rt, alloc, bytes(alloc, source)?, printed)?;
+    }
+    check(
+        &rt,
+        alloc,
+        Bytes::from_vec(b"-module(\xff)."[..].to_vec(alloc)?),
+        NOT_BUILT,
+    )
+}
+
+// Calls inside calls: a variable has nesting 1, and a call without arguments 2.
+#[test]
+fn nesting(rt: HostRuntime) -> Result<(), Fail> {
+    let alloc = rt.alloc();
+    check(&rt, alloc, nested(alloc, "X", 127)?, "")?;
+    check(&rt, alloc, nested(alloc, "X", 128)?, NOT_BUILT)?;
+    check(&rt, alloc, nested(alloc, "k()", 126)?, "")?;
+    check(&rt, alloc, nested(alloc, "k()", 127)?, NOT_BUILT)
+}
+
+fn nested(alloc: Global, inner: &str, calls: usize) -> Result<Bytes, Fail> {
+    let mut text = Vec::new(alloc);
+    text.extend_from_slice(b"-module(r).\n-export([f/1]).\nk() -> a.\nk(X) -> X.\nf(X) -> ")?;
+    for _ in 0..calls {
+        text.extend_from_slice(b"k(")?;
+    }
+    text.extend_from_slice(inner.as_bytes())?;
+    for _ in 0..calls {
+        text.push(b')')?;
+    }
+    text.push(b'.')?;
+    Ok(Bytes::from_vec(text))
+}
+
+// The lines of a module's faults; without a line, it is written.
+fn check(rt: &impl Abort, alloc: Global, source: Bytes, printed: &str) -> Result<(), Fail> {
+    let run = run(alloc, "r.erl", source, &NO_TROUBLE)?;
+    assert_eq!(rt; run.diag.bytes(), printed.as_bytes());
+    let is_written = printed.len() == 0;
+    let status = if is_written {
+        Status::Written
+    } else {
+        Status::Faults
+    };
+    assert_eq!(rt; run.status, status, "{}", printed);
+    assert_eq!(rt; run.output.created().is_some(), is_written, "{}", printed);
+    Ok(())
+}
+
+fn identity(alloc: Global, failing: [u64; 3]) -> Result<Outcome, Fail> {
+    let trouble = Trouble {
+        failing,
+        room: 1000,
+    };
+    run(alloc, "a.erl", bytes(alloc, IDENTITY)?, &trouble)
+}
+
+// Each call fails in turn, until one does not occur.
+#[test]
+fn failing_calls(rt: HostRuntime) -> Result<(), Fail> {
+    let alloc = rt.alloc();
+    let read = identity(alloc, [1, 0, 0])?;
+    assert_eq!(rt; read.status, Status::ReadFault);
+    assert_eq!(rt;
+        read.diag.bytes(),
+        "erlfront: a.erl: read fault\n".as_bytes()
+    );
+    assert!(rt; read.output.created().is_none());
+    assert_eq!(rt; identity(alloc, [2, 0, 0])?.status, Status::Written);
+    let create = identity(alloc, [0, 1, 0])?;
+    assert_eq!(rt; create.status, Status::WriteFault);
+    assert_eq!(rt; create.diag.bytes(), "erlfront: write fault\n".as_bytes());
+    assert!(rt; create.output.created().is_none());
+    let write = identity(alloc, [0, 2, 0])?;
+    assert_eq!(rt; write.status, Status::WriteFault);
+    assert!(rt; is_front(&write.output));
+    assert_eq!(rt; identity(alloc, [0, 3, 0])?.status, Status::Written);
+    assert_eq!(rt; identity(alloc, [0, 0, 1])?.status, Status::Written);
+    Ok(())
+}
+
+// An output without room for the whole text.
+#[test]
+fn full_output(rt: HostRuntime) -> Result<(), Fail> {
+    let alloc = rt.alloc();
+    for room in [6, 40, 200] {
+        let trouble = Trouble {
+            failing: [0, 0, 0],
+            room,
+        };
+        let run = run(alloc, "a.erl", bytes(alloc, IDENTITY)?, &trouble)?;
+        assert_eq!(rt; run.status, Status::WriteFault);
+        assert_eq!(rt; run.diag.bytes(), "erlfront: write fault\n".as_bytes());
+        assert!(rt; is_front(&run.output));
+    }
+    Ok(())
+}
+
+// Whether the output holds a proper front part of the text.
+fn is_front(output: &MemoryOutput) -> bool {
+    let Some((path, text)) = output.created() else {
+        return false;
+    };
+    path == "a.core".as_bytes()
+        && text.len() < IDENTITY_TEXT.len()
+        && IDENTITY_TEXT.as_bytes().starts_with(text)
+}

@@ -5,5 +5,7 @@ mod exports;
 mod function;
 mod info;
 mod module;
+#[cfg(test)]
+mod tests;
 
 pub use module::lower;

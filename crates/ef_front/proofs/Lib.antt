@@ -4,6 +4,7 @@ pub mod Created
 pub mod Found
 pub mod Headline
 pub mod OfNames
+pub mod OneList
 pub mod OneModule
 pub mod OneSource
 pub mod Pending

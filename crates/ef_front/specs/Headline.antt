@@ -1,5 +1,5 @@
 -- What a run shows where no count rose and memory sufficed.
-use Rattle.std.specs.Prelude.{List, [], ◌∷◌, ◌≡◌, ◌≢◌, Option, IfSome}
+use Rattle.std.specs.Prelude.{ℕ, List, [], ◌∷◌, ◌≡◌, ◌≢◌, Option, Some, IfSome}
 use Rattle.ef_base.specs.declared.fault.Fault.{Fault}
 use Rattle.ef_io.specs.Count.{Rose}
 use Rattle.ef_io.specs.Sources.{Files, SourcesView}
@@ -29,3 +29,8 @@ pub record AllWorked (from to : SourcesView) (output output' diag diag' : SinkVi
   pub written : Rose output.faults output'.faults → ⊥
   pub printed : Rose diag.faults diag'.faults → ⊥
   pub memory : result ≢ status.NoMemory
+
+-- the faults of a file that is told are one list
+abbrev pub HaveOneList : Type 0
+HaveOneList =
+    (files : Files) (path : List ℕ) (faults others : List Fault) → AreFaults (Some files) path faults → AreFaults (Some files) path others → faults ≡ others

@@ -4,7 +4,7 @@ ghost use Rattle.ef_io.specs.Sink.{Stays};
 ghost use Rattle.ef_front.specs.Words.{job_of};
 ghost use Rattle.ef_front.specs.Lines.{image};
 ghost use Rattle.ef_front.specs.Runs.{Prints, Creates, Counts, Refuses, Reports, IsIdle};
-ghost use Rattle.ef_front.specs.Headline.{AllWorked, ShowsFaults};
+ghost use Rattle.ef_front.specs.Headline.{AllWorked, HaveOneList, ShowsFaults};
 
 use crate::compiling::{Compiled, Stop, compile};
 use crate::job::{Job, options};
@@ -44,6 +44,9 @@ pub fn erlfront<S: Sources, O: Output, G: Sink>(
     // Where no count rose and memory sufficed, exactly the faults are printed, or the text is written.
     ensures headline { AllWorked (S.seen sources.old) (S.seen sources.new) (O.seen output.old) (O.seen output.new) (G.seen diag.old) (G.seen diag.new) result
         → ShowsFaults (job_of (map string_bytes words.now)) (S.seen sources.old).files result (O.seen output.old) (O.seen output.new) (G.seen diag.old) (G.seen diag.new) }
+
+    // The faults of an input are one list, so what is printed is settled by the files.
+    ensures one_list { HaveOneList }
 {
     start(alloc, words, sources, output, diag)
 }

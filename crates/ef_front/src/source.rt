@@ -40,7 +40,7 @@ pub fn compile_text(alloc: Global, source: &[u8]) -> Result<Compiled, NoMemory>
     if taken.is_foreign {
         return Ok(Compiled::Faulty(not_built(alloc)?));
     }
-    compile_forms(alloc, names, &taken.forms)
+    compile_forms(alloc, names, taken.forms)
 }
 
 /// The tokens of each form, as far as none is faulty.
@@ -67,14 +67,17 @@ fn take_forms(alloc: Global, scanned: Vec<ScannedForm>) -> Result<Taken, NoMemor
 fn compile_forms(
     alloc: Global,
     mut names: Names,
-    forms: &[Vec<Token>],
+    forms: Vec<Vec<Token>>,
 ) -> Result<Compiled, NoMemory>
-    requires ends { AreForms (lists forms.now) }
-    requires named { AllTokensOf names (lists forms.now) }
-    requires light { SpellLight (lists forms.now) }
-    ensures { IfOk result (IsCompiledForms names (lists forms.now)) }
+    requires ends { AreForms (lists forms.items) }
+    requires named { AllTokensOf names (lists forms.items) }
+    requires light { SpellLight (lists forms.items) }
+    ensures { IfOk result (IsCompiledForms names (lists forms.items)) }
 {
-    match module(alloc, &mut names, forms) {
+    let read = module(alloc, &mut names, &forms);
+    // The tokens go before the module is lowered, which takes their memory again.
+    drop(forms);
+    match read {
         Ok(module) => compile_module(alloc, names, &module),
         Err(FormRefusal::Faulty(_)) => Ok(Compiled::Faulty(not_built(alloc)?)),
         Err(FormRefusal::NoMemory) => Err(NoMemory),

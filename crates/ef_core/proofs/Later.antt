@@ -1,6 +1,6 @@
 -- What holds of Core trees in a later table: names stay, and the text is the same.
-use Rattle.std.specs.Prelude.{◌≡◌, List, [], ◌∷◌, ◌++◌, flat_map, decimal, pos, refl}
-use Rattle.std.proofs.Common.{sym, ap, ◌∙◌}
+use Rattle.std.specs.Prelude.{◌≡◌, List, [], ◌∷◌, ◌++◌, flat_map, pos, refl}
+use Rattle.std.proofs.Common.{sym, ap}
 use Rattle.std.specs.Str.{chars}
 use Rattle.ef_base.specs.declared.name.Name.{Name}
 use Rattle.ef_base.specs.Laws.{has_later, named_later}
@@ -10,7 +10,7 @@ use Rattle.ef_core.specs.declared.lexeme.Symbol.TheVariants.{Comma}
 use Rattle.ef_core.specs.declared.tree.CoreVar.{CoreVar}
 use Rattle.ef_core.specs.declared.tree.CoreVar.TheVariants.{Numbered, Named}
 use Rattle.ef_core.specs.declared.tree.FName.{FName}
-use Rattle.ef_core.specs.Layout.{Break, Piece, Put, all_pieces, atom_pieces, attribute_pieces, attributes_pieces, def_pieces, fname_pieces, header_pieces, lay, lit_pieces, module_pieces, more_pieces, pieces, put_sym, put_word, separated, steps_pieces, text_of, var_list, var_pieces, vars_pieces}
+use Rattle.ef_core.specs.Layout.{Break, Piece, Put, all_pieces, atom_pieces, attribute_pieces, def_pieces, fname_pieces, lay, lit_pieces, module_pieces, more_pieces, pieces, put_sym, put_word, separated, steps_pieces, text_of, var_pieces, vars_pieces}
 use Rattle.ef_core.specs.Lexeme as x
 use Rattle.ef_core.specs.OfTable.{AttributeOf, CoreModuleOf, CoreOf, CoresOf, DefOf, Each, FNameOf, LitOf, StepsOf, VarOf}
 use Rattle.ef_core.specs.Tree.{AttributeTree, CoreModuleTree, CoreTree, CoreTrees, CoreSteps, DefTree, LitTree, int, atom, var, lit, fun_name, lets, apply, call, end, more, done, step}

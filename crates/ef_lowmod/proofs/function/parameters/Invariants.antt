@@ -1,4 +1,4 @@
-use Rattle.std.proofs.Common.{◌≡◌, ◌+◌, ℕ, length, take}
+use Rattle.std.proofs.Common.{◌≡◌, ◌+◌, ℕ, take}
 use Rattle.ef_base.specs.Texts.{Texts}
 use Rattle.ef_core.specs.OfTable.{BindOf, Each, VarOf}
 use Rattle.ef_forms.specs.Plain.{plain_all}

@@ -30,6 +30,7 @@ impl Model for Env {
 }
 
 impl Env {
+    /// No names.
     pub fn new(alloc: Global) -> Env
         ensures { result ≡ [] }
     {

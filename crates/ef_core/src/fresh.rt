@@ -23,6 +23,7 @@ impl Model for Fresh {
 }
 
 impl Fresh {
+    /// No variable is drawn yet.
     pub fn new() -> Fresh
         ensures { result ≡ 0 }
     {

@@ -18,6 +18,7 @@ pub struct Fixed {
     pub get_module_info: Name,
 }
 
+/// The names that every lowered module mentions.
 pub fn fixed_names(names: &mut Names) -> Result<Fixed, NoMemory>
     ensures kept { Extends names.old names.new }
     ensures fixed { IfOk result (λ f. (all : Texts) → Extends names.new all → AreFixed all f) }

@@ -5,6 +5,7 @@ ghost use Rattle.ef_core.specs.Layout as layout;
 
 use ef_core::{Last, Symbol, Word};
 
+/// A word, as it is written.
 pub fn word_text(word: Word) -> &'static [u8]
     ensures { result.now ≡ spec.word_text word }
 {
@@ -30,6 +31,7 @@ pub fn word_text(word: Word) -> &'static [u8]
     }
 }
 
+/// A symbol, as it is written.
 pub fn symbol_text(symbol: Symbol) -> &'static [u8]
     ensures { result.now ≡ spec.symbol_text symbol }
 {
@@ -73,6 +75,7 @@ pub fn after_symbol(symbol: Symbol) -> Last
     }
 }
 
+/// What separates a symbol from the lexeme before it.
 pub fn symbol_gap(last: Last, symbol: Symbol) -> &'static [u8]
     ensures { result.now ≡ layout.gap last (spec.Sym symbol) }
 {

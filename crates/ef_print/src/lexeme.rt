@@ -37,6 +37,7 @@ pub fn print_break(so_far: Result<Last, Failed>) -> Result<Last, Failed>
     }
 }
 
+/// Prints a word, unless a write failed before.
 pub fn print_word<G: Sink>(
     sink: &mut G,
     so_far: Result<Last, Failed>,
@@ -52,6 +53,7 @@ pub fn print_word<G: Sink>(
     ended(written, Last::Other)
 }
 
+/// Prints a symbol.
 pub fn print_symbol<G: Sink>(
     sink: &mut G,
     so_far: Result<Last, Failed>,
@@ -67,6 +69,7 @@ pub fn print_symbol<G: Sink>(
     ended(written, after_symbol(symbol))
 }
 
+/// Prints an integer in decimal, with its sign.
 pub fn print_int<G: Sink>(
     sink: &mut G,
     so_far: Result<Last, Failed>,
@@ -99,6 +102,7 @@ fn print_arity<G: Sink>(
     ended(written, Last::Callable)
 }
 
+/// Prints an atom in single quotes, with its escapes.
 pub fn print_atom<G: Sink>(
     names: &Names,
     sink: &mut G,
@@ -152,6 +156,7 @@ fn print_named<G: Sink>(
     ended(written, Last::Callable)
 }
 
+/// Prints a variable: its name, or `_` and its number.
 pub fn print_var<G: Sink>(
     names: &Names,
     sink: &mut G,
@@ -169,6 +174,7 @@ pub fn print_var<G: Sink>(
     }
 }
 
+/// Prints the name of a function, `Atom/Arity`.
 pub fn print_fname<G: Sink>(
     names: &Names,
     sink: &mut G,
@@ -185,6 +191,7 @@ pub fn print_fname<G: Sink>(
     print_arity(sink, so_far, function.arity)
 }
 
+/// Prints a literal.
 pub fn print_lit<G: Sink>(
     names: &Names,
     sink: &mut G,

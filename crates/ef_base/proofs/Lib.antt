@@ -3,3 +3,4 @@ pub mod FaultLaws
 pub mod Tables
 pub mod Searches
 pub mod CutLaws
+pub mod Escapes

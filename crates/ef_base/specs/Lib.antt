@@ -5,3 +5,5 @@ pub mod Laws
 pub mod Positions
 pub mod Cut
 pub mod Taken
+pub mod Characters
+pub mod Escape

@@ -1,5 +1,5 @@
 -- Tables of texts, and what holds of a name in every later table.
-use Rattle.std.specs.Prelude.{ℕ, ◌<◌, List, [], ◌∷◌, ◌++◌, ◌≡◌, ◌≢◌, ◌⊎◌, slice_get, get_or, length, Some}
+use Rattle.std.specs.Prelude.{ℕ, ◌<◌, List, [], ◌∷◌, ◌++◌, ◌≡◌, ◌≢◌, ◌⊎◌, slice_get, get_or, length, Some, IsUtf8}
 use Rattle.ef_base.specs.declared.name.Name.{Name}
 
 -- the texts of a table, each at the number of its name
@@ -31,6 +31,10 @@ HasName texts name = name.index < length texts
 -- the text of a name of the table
 abbrev pub text : Texts → Name → List ℕ
 text texts name = get_or texts name.index []
+
+-- every name has a text of UTF-8
+abbrev pub AllUtf8 : Texts → Type 0
+AllUtf8 texts = (name : Name) → HasName texts name → IsUtf8 (text texts name)
 
 -- the name is one of the table, and has this text
 pub record IsNameOf (texts : Texts) (name : Name) (bytes : List ℕ) : Type 0 where

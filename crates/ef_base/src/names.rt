@@ -1,6 +1,6 @@
 // The table of names, each for one text.
 ghost use Rattle.std.specs.Prelude.{◌≡◌, [], IfSome, IfNone, IfOk, OnOk, OnErr};
-ghost use Rattle.ef_base.specs.Texts.{AllDiffer, Extends, Gains, HasName, IsAbsent, IsNameOf, Texts};
+ghost use Rattle.ef_base.specs.Texts.{AllDiffer, AllUtf8, Extends, Gains, HasName, IsAbsent, IsNameOf, Texts};
 
 use crate::{Name, NoMemory};
 use indexmap::IndexSet;
@@ -17,13 +17,13 @@ pub struct Names {
 
 impl Model for Names {
     ghost use Rattle.std.specs.Prelude.{List, ℕ, map, string_bytes};
-    ghost use Rattle.ef_base.specs.Texts.{AllDiffer};
+    ghost use Rattle.ef_base.specs.Texts.{AllDiffer, AllUtf8};
 
     ghost Value = { List (List ℕ) };
 
     ghost view = { λ n. map string_bytes n.texts.keys };
 
-    ghost invariant = { λ n. AllDiffer (map string_bytes n.texts.keys) };
+    ghost invariant = { λ n. AllDiffer (map string_bytes n.texts.keys) × AllUtf8 (map string_bytes n.texts.keys) };
 }
 
 impl Names {
@@ -62,6 +62,7 @@ impl Names {
         ensures named { IfOk result (λ name. (all : Texts) → Extends self.new all → IsNameOf all name text.now) }
         ensures table { OnOk result (Gains text.now self.old self.new) }
         ensures differ { AllDiffer self.new }
+        ensures utf8 { AllUtf8 self.new }
         ensures err { OnErr result (self.new ≡ self.old) }
     {
         if let Some(name) = self.find(text) {

@@ -1,6 +1,7 @@
 -- Lexemes as the scanner finds them at the front of a text, and where it stands.
 use Rattle.std.specs.Prelude.{ℕ, ◌+◌, ◌^◌, ◌<◌, ◌≤◌, ◌≡◌, ◌≢◌, Bool, true, false, List, [], ◌∷◌, ◌++◌, length, take, drop, chars, IsUtf8, Option, Some, None}
 use Rattle.ef_base.specs.Positions.{Position, next_position, position_after}
+pub use Rattle.ef_base.specs.Characters.{Stops}
 use Rattle.ef_base.specs.Cut.{Longest}
 use Rattle.ef_token.specs.declared.word.Sym.{Sym}
 use Rattle.ef_token.specs.Words.{sym_text}
@@ -14,11 +15,6 @@ use Rattle.ef_scan.specs.declared.cursor.Cursor.{Cursor}
 -- the printing characters of ASCII but the space
 abbrev pub is_plain : ℕ → Bool
 is_plain c = is_within 33 126 c
-
--- the text is empty, or its first character fails the test
-abbrev pub Stops : (ℕ → Bool) → List ℕ → Type 0
-Stops p [] = Unit {0}
-Stops p (c ∷ cs) = p c ≡ false
 
 -- the first n are all of the text's characters that pass the test before one that fails
 pub record IsRun (p : ℕ → Bool) (text : List ℕ) (n : ℕ) : Type 0 where

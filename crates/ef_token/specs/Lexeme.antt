@@ -1,11 +1,12 @@
 -- The lexemes of Erlang source and their spellings (Reference Manual, lexical rules), as far as they are built:
 -- unquoted atoms of ASCII characters, variables of such, decimal integers, reserved words, symbols, the full stop.
-use Rattle.std.specs.Prelude.{ℕ, ◌+◌, ◌*◌, ◌-◌, ◌^◌, ◌<◌, ◌≤◌, ◌≡◌, ◌≢◌, ◌==◌, ◌&&◌, ◌||◌, nat_le, Bool, true, List, [], ◌∷◌, ◌++◌, length, pos, encode_utf8_all}
+use Rattle.std.specs.Prelude.{ℕ, ◌^◌, ◌<◌, ◌≤◌, ◌≡◌, ◌≢◌, ◌==◌, ◌||◌, Bool, true, List, [], ◌∷◌, ◌++◌, length, pos, encode_utf8_all}
 use Rattle.ef_base.specs.declared.fault.Place.{Place}
 use Rattle.ef_base.specs.declared.name.Name.{Name}
 use Rattle.ef_base.specs.Texts.{Texts, IsNameOf}
 use Rattle.ef_base.specs.Positions.{Position, place_at}
 use Rattle.ef_base.specs.Cut.{Placed, Cuts}
+pub use Rattle.ef_base.specs.Characters.{is_within, is_digit, is_lower, is_upper, is_name_part, is_white, Each, BeginsAndGoesOn, number_after}
 use Rattle.ef_token.specs.declared.token.TokenKind.{TokenKind}
 use Rattle.ef_token.specs.declared.token.TokenKind.TheVariants as kind
 use Rattle.ef_token.specs.declared.token.Token.{Token}
@@ -22,42 +23,6 @@ pub data Lexeme : Type 0 where
   word : Word → Lexeme
   symbol : Sym → Lexeme
   full_stop : Lexeme
-
-abbrev pub is_within : ℕ → ℕ → ℕ → Bool
-is_within low high c = nat_le low c && nat_le c high
-
-abbrev pub is_digit : ℕ → Bool
-is_digit c = is_within 48 57 c
-
--- what begins an unquoted atom
-abbrev pub is_lower : ℕ → Bool
-is_lower c = is_within 97 122 c
-
--- what begins a variable
-abbrev pub is_upper : ℕ → Bool
-is_upper c = is_within 65 90 c || c == 95
-
--- what an unquoted atom or a variable goes on with
-abbrev pub is_name_part : ℕ → Bool
-is_name_part c = is_lower c || is_upper c || is_digit c || c == 64
-
-abbrev pub Each : (ℕ → Bool) → List ℕ → Type 0
-Each p [] = Unit {0}
-Each p (c ∷ cs) = (p c ≡ true) × Each p cs
-
--- one character of a kind, and then any of another
-abbrev pub BeginsAndGoesOn : (ℕ → Bool) → (ℕ → Bool) → List ℕ → Type 0
-BeginsAndGoesOn p q [] = ⊥
-BeginsAndGoesOn p q (c ∷ cs) = (p c ≡ true) × Each q cs
-
--- the number that digits spell, behind digits that spell n
-abbrev pub number_after : ℕ → List ℕ → ℕ
-number_after n [] = n
-number_after n (c ∷ cs) = number_after (10 * n + (c - 48)) cs
-
--- white space; the second range are the control characters of Latin-1 and its no-break space
-abbrev pub is_white : ℕ → Bool
-is_white c = nat_le c 32 || is_within 128 160 c
 
 -- what follows the dot of a full stop
 abbrev pub EndsForm : List ℕ → Type 0

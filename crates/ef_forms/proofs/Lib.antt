@@ -1,3 +1,4 @@
 pub mod Plain
+pub mod Depths
 pub mod Built
 pub mod Ways

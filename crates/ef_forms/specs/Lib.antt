@@ -4,3 +4,4 @@ pub mod Built
 pub mod OfTable
 pub mod Ways
 pub mod Weight
+pub mod Depth

@@ -1,10 +1,16 @@
-//! The trees of Erlang source, and what is defined over them.
+//! The trees of Erlang source, what is defined over them, and how deep and how heavy they are.
 #![tactic(auto)]
 
 mod expr;
 mod form;
+mod measure;
+mod record;
 mod tables;
+#[cfg(test)]
+mod tests;
 
 pub use expr::{Clause, Expr, Node};
 pub use form::{Form, Function, FunctionRef, Module, PlacedForm};
-pub use tables::{FieldDef, FunctionName, Import, RecordDef, Tables};
+pub use measure::{depth, weight};
+pub use record::{FieldDef, RecordDef};
+pub use tables::{FunctionName, Import, Tables};

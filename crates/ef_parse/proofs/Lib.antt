@@ -1,4 +1,5 @@
 pub mod Plain
+pub mod Depths
 pub mod Stack
 pub mod Parts
 pub mod Complete

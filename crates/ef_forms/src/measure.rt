@@ -1,0 +1,77 @@
+// How deep and how heavy trees are.
+ghost use Rattle.std.specs.Prelude.{◌≡◌, ◌^◌, ◌+◌, ◌-◌, min};
+ghost use Rattle.ef_forms.specs.Depth as d;
+ghost use Rattle.ef_forms.specs.Plain.{plain, plain_all};
+ghost use Rattle.ef_forms.specs.Weight as w;
+
+use crate::{Expr, Node, RecordDef};
+
+// One more than the greatest weight of a function.
+const OVER: u64 = (1 << 22) + 1;
+
+/// The greatest nesting of the tree: one for a node without parts, else one more than the greatest of its parts.
+#[cycle(depth)]
+#[tactic(auto, using(crate::proofs::Plain::laws))]
+pub fn depth(expr: &Expr) -> u32
+    ensures { result ≡ min (d.depth (plain expr.now)) (2 ^ 32 - 1) }
+{
+    match &expr.node {
+        Node::Int(_) | Node::Atom(_) | Node::Var(_) => 1,
+        Node::Call { target, args } => depth(target).max(all_depth(args)).saturating_add(1),
+        Node::Remote {
+            module,
+            function,
+            args,
+        } => {
+            let parts = depth(module).max(depth(function)).max(all_depth(args));
+            parts.saturating_add(1)
+        }
+    }
+}
+
+// The greatest of several; 0 for none.
+#[cycle(depth)]
+fn all_depth(exprs: &[Expr]) -> u32
+    ensures { result ≡ min (d.all_depth (plain_all exprs.now)) (2 ^ 32 - 1) }
+{
+    let mut greatest = 0;
+    for expr in exprs {
+        greatest = depth(expr).max(greatest);
+    }
+    greatest
+}
+
+/// The number of nodes of the tree, or 2^22 + 1 where it is greater.
+#[cycle(weight)]
+#[tactic(auto, using(crate::proofs::Plain::laws))]
+pub fn weight(expr: &Expr, records: &[RecordDef]) -> u64
+    ensures { result ≡ min (w.weight (plain expr.now)) (2 ^ 22 + 1) }
+{
+    match &expr.node {
+        Node::Int(_) | Node::Atom(_) | Node::Var(_) => 1,
+        Node::Call { target, args } => {
+            let parts = weight(target, records) + all_weight(args, records);
+            (1 + parts).min(OVER)
+        }
+        Node::Remote {
+            module,
+            function,
+            args,
+        } => {
+            let names = weight(module, records) + weight(function, records);
+            (1 + names + all_weight(args, records)).min(OVER)
+        }
+    }
+}
+
+// The sum of several, or 2^22 + 1 where it is greater.
+#[cycle(weight)]
+fn all_weight(exprs: &[Expr], records: &[RecordDef]) -> u64
+    ensures { result ≡ min (w.all_weight (plain_all exprs.now)) (2 ^ 22 + 1) }
+{
+    let mut sum = 0;
+    for expr in exprs {
+        sum = (sum + weight(expr, records)).min(OVER);
+    }
+    sum
+}

@@ -1,0 +1,64 @@
+// Depths and weights of trees.
+use crate::{Expr, Node, depth, weight};
+use ef_base::{Name, Place};
+use std::alloc::Global;
+use std::test::Fail;
+
+fn expr(node: Node) -> Expr {
+    let place = Place {
+        file: 0,
+        line: 1,
+        column: 1,
+    };
+    Expr { place, node }
+}
+
+// `a`
+fn atom() -> Expr {
+    expr(Node::Atom(Name { index: 0 }))
+}
+
+fn call(alloc: Global, target: Expr, args: Vec<Expr>) -> Result<Expr, Fail> {
+    let target = Box::new(alloc, target)?;
+    Ok(expr(Node::Call { target, args }))
+}
+
+// A remote call without arguments.
+fn remote(alloc: Global, module: Expr, function: Expr) -> Result<Expr, Fail> {
+    Ok(expr(Node::Remote {
+        module: Box::new(alloc, module)?,
+        function: Box::new(alloc, function)?,
+        args: Vec::new(alloc),
+    }))
+}
+
+// `1`, as the only argument of so many calls of `a`, one in the other.
+fn chain(alloc: Global, calls: u32) -> Result<Expr, Fail> {
+    let mut inner = expr(Node::Int(1));
+    for _ in 0..calls {
+        inner = call(alloc, atom(), vec![in alloc; inner]?)?;
+    }
+    Ok(inner)
+}
+
+#[test]
+fn depths_and_weights(rt: HostRuntime) -> Result<(), Fail> {
+    let alloc = rt.alloc();
+    let two = vec![in alloc; chain(alloc, 0)?, chain(alloc, 2)?]?;
+    let one = vec![in alloc; chain(alloc, 0)?]?;
+    let table = [
+        ("1", chain(alloc, 0)?, 1, 1),
+        ("a(1)", chain(alloc, 1)?, 2, 3),
+        ("a()", call(alloc, atom(), Vec::new(alloc))?, 2, 2),
+        ("a(1, a(a(1)))", call(alloc, atom(), two)?, 4, 8),
+        ("(a(a(1)))(1)", call(alloc, chain(alloc, 2)?, one)?, 4, 7),
+        ("(a(1)):a()", remote(alloc, chain(alloc, 1)?, atom())?, 3, 5),
+        ("a:(a(1))()", remote(alloc, atom(), chain(alloc, 1)?)?, 3, 5),
+        ("a(a(.. a(1)))", chain(alloc, 100)?, 101, 201),
+    ];
+    for (text, expr, deep, heavy) in &table {
+        assert_eq!(rt; depth(expr), *deep, "{text}");
+        assert_eq!(rt; weight(expr, &[]), *heavy, "{text}");
+    }
+    Ok(())
+}

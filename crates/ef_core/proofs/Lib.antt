@@ -1,2 +1,14 @@
-pub mod Lists
+pub mod Ascii
+pub mod CoreCut
+pub mod Good
+pub mod HoldsLaws
 pub mod Later
+pub mod Law
+pub mod LetForms
+pub mod Lists
+pub mod Longest
+pub mod Numerals
+pub mod Printed
+pub mod ReadLater
+pub mod Spellings
+pub mod Spells

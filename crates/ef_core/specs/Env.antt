@@ -1,7 +1,7 @@
 -- Which variable holds the value of a name.
 use Rattle.std.specs.Prelude.{List, [], ◌∷◌, Option, Some, None, ◌==◌, if◌then◌else◌}
 use Rattle.ef_base.specs.declared.name.Name.{Name}
-use Rattle.ef_core.specs.declared.tree.CoreVar.{CoreVar}
+use Rattle.ef_core.specs.declared.literal.CoreVar.{CoreVar}
 use Rattle.ef_core.specs.declared.env.Bind.{Bind}
 
 abbrev pub bind : Name → CoreVar → Bind

@@ -1,7 +1,7 @@
 -- How variables are drawn.
 use Rattle.std.specs.Prelude.{ℕ, ◌+◌, ◌<◌, ◌≡◌, Option, Some, None}
-use Rattle.ef_core.specs.declared.tree.CoreVar.{CoreVar}
-use Rattle.ef_core.specs.declared.tree.CoreVar.TheVariants.{Numbered}
+use Rattle.ef_core.specs.declared.literal.CoreVar.{CoreVar}
+use Rattle.ef_core.specs.declared.literal.CoreVar.TheVariants.{Numbered}
 
 abbrev pub most_variables : ℕ
 most_variables = 4294967295

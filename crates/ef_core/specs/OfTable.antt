@@ -1,15 +1,12 @@
 -- Core trees whose names are all of one table.
-use Rattle.std.specs.Prelude.{List, [], ◌∷◌}
 use Rattle.ef_base.specs.Texts.{Texts, HasName}
-use Rattle.ef_core.specs.declared.tree.CoreVar.{CoreVar}
-use Rattle.ef_core.specs.declared.tree.CoreVar.TheVariants.{Numbered, Named}
-use Rattle.ef_core.specs.declared.tree.FName.{FName}
+use Rattle.ef_core.specs.declared.literal.CoreVar.{CoreVar}
+use Rattle.ef_core.specs.declared.literal.CoreVar.TheVariants.{Numbered, Named}
+use Rattle.ef_core.specs.declared.literal.FName.{FName}
 use Rattle.ef_core.specs.declared.env.Bind.{Bind}
-use Rattle.ef_core.specs.Tree.{LitTree, CoreTree, CoreTrees, CoreSteps, AttributeTree, DefTree, CoreModuleTree, int, atom, var, lit, fun_name, lets, apply, call, end, more, done, step}
-
-abbrev pub Each : {A : Type 0} → (A → Type 0) → List A → Type 0
-Each P [] = Unit {0}
-Each P (x ∷ xs) = P x × Each P xs
+pub use Rattle.ef_core.specs.Everywhere.{Each}
+use Rattle.ef_core.specs.Everywhere.{Rule, Holds, AllHold, StepsHold, LitHolds, DefHolds}
+use Rattle.ef_core.specs.Tree.{LitTree, CoreTree, CoreTrees, CoreSegments, CoreSteps, CoreDefs, PatTree, PatSegments, AttributeTree, DefTree, CoreModuleTree, atom, fun_name, bin, letrec, primop, no_segments, segment, no_defs, def, pat_bin, no_pat_segments, pat_segment}
 
 module _ (texts : Texts) where
   abbrev pub VarOf : CoreVar → Type 0
@@ -19,32 +16,54 @@ module _ (texts : Texts) where
   abbrev pub FNameOf : FName → Type 0
   FNameOf f = HasName texts f.name
 
+  abbrev pub KindsOf : CoreSegments → Type 0
+  KindsOf no_segments = Unit {0}
+  KindsOf (segment e size unit kind flags ss) = HasName texts kind × KindsOf ss
+
+  abbrev pub PatKindsOf : PatSegments → Type 0
+  PatKindsOf no_pat_segments = Unit {0}
+  PatKindsOf (pat_segment p size unit kind flags ss) = HasName texts kind × PatKindsOf ss
+
+  abbrev pub FNamesOf : CoreDefs → Type 0
+  FNamesOf no_defs = Unit {0}
+  FNamesOf (def f vs b ds) = FNameOf f × FNamesOf ds
+
+  -- the names that stand right in an expression
+  abbrev pub NamesOf : CoreTree → Type 0
+  NamesOf (fun_name f) = FNameOf f
+  NamesOf (bin ss) = KindsOf ss
+  NamesOf (letrec ds e) = FNamesOf ds
+  NamesOf (primop n es) = HasName texts n
+  NamesOf _ = Unit {0}
+
+  abbrev pub PatNamesOf : PatTree → Type 0
+  PatNamesOf (pat_bin ss) = PatKindsOf ss
+  PatNamesOf _ = Unit {0}
+
+  abbrev pub LitNameOf : LitTree → Type 0
+  LitNameOf (atom n) = HasName texts n
+  LitNameOf _ = Unit {0}
+
+  abbrev pub of_table : Rule
+  of_table = record { expr = NamesOf; pat = PatNamesOf; literal = LitNameOf; variable = VarOf }
+
   abbrev pub LitOf : LitTree → Type 0
-  LitOf (int i) = Unit {0}
-  LitOf (atom n) = HasName texts n
+  LitOf = LitHolds of_table
 
-  abbrev mutual
-    pub CoreOf : CoreTree → Type 0
-    CoreOf (var v) = VarOf v
-    CoreOf (lit l) = LitOf l
-    CoreOf (fun_name f) = FNameOf f
-    CoreOf (lets ss e) = StepsOf ss × CoreOf e
-    CoreOf (apply f es) = CoreOf f × CoresOf es
-    CoreOf (call m f es) = CoreOf m × CoreOf f × CoresOf es
+  abbrev pub CoreOf : CoreTree → Type 0
+  CoreOf = Holds of_table
 
-    pub CoresOf : CoreTrees → Type 0
-    CoresOf end = Unit {0}
-    CoresOf (more e es) = CoreOf e × CoresOf es
+  abbrev pub CoresOf : CoreTrees → Type 0
+  CoresOf = AllHold of_table
 
-    pub StepsOf : CoreSteps → Type 0
-    StepsOf done = Unit {0}
-    StepsOf (step vs e ss) = Each VarOf vs × CoreOf e × StepsOf ss
+  abbrev pub StepsOf : CoreSteps → Type 0
+  StepsOf = StepsHold of_table
 
   abbrev pub AttributeOf : AttributeTree → Type 0
   AttributeOf a = HasName texts a.name × LitOf a.term
 
   abbrev pub DefOf : DefTree → Type 0
-  DefOf d = FNameOf d.name × Each VarOf d.params × CoreOf d.body
+  DefOf d = FNameOf d.name × DefHolds of_table d
 
   abbrev pub CoreModuleOf : CoreModuleTree → Type 0
   CoreModuleOf m = HasName texts m.name × Each FNameOf m.exports × Each AttributeOf m.attributes × Each DefOf m.defs

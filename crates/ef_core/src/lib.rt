@@ -1,20 +1,26 @@
 //! The trees of Core Erlang, variables that were not drawn before, and the printed layout as a definition.
 #![tactic(auto)]
 
+mod depth;
 mod env;
 mod fresh;
 mod layout;
 mod let_form;
 mod lexeme;
+mod literal;
 mod module;
 #[cfg(test)]
 mod tests;
 mod tree;
+mod weight;
 
+pub use depth::core_depth;
 pub use env::{Bind, Env};
 pub use fresh::Fresh;
 pub use layout::Last;
 pub use let_form::{is_let_form, is_simple};
 pub use lexeme::{Symbol, Word};
-pub use module::{CoreAttribute, CoreDef, CoreModule};
-pub use tree::{CoreExpr, CoreLit, CoreVar, FName, LetStep};
+pub use literal::{CoreLit, CoreVar, FName};
+pub use module::{CoreAttribute, CoreModule};
+pub use tree::{CoreClause, CoreDef, CoreExpr, CorePat, CorePatSegment, CoreSegment, LetStep};
+pub use weight::core_weight;

@@ -1,3 +1,4 @@
 pub mod Written
 pub mod Hex
 pub mod Lists
+pub mod Parts

@@ -4,7 +4,7 @@ use Rattle.std.proofs.Math.Seq.{take-append-add}
 use Rattle.std.proofs.lemmas.List.{take-append-le}
 use Rattle.ef_core.specs.declared.layout.Last.{Last}
 use Rattle.ef_core.specs.declared.layout.Last.TheVariants.{Start, Newline, Opening, Callable, Other}
-use Rattle.ef_core.specs.Layout.{Piece, Break, Put, lay, ends, lay_piece, after_piece, plain_gap, gap, spelling, after}
+use Rattle.ef_core.specs.Pieces.{Piece, Put, lay, ends, lay_piece, after_piece, plain_gap, gap, spelling, after}
 use Rattle.ef_core.specs.Lexeme as x
 use Rattle.ef_core.specs.declared.lexeme.Word.{Word}
 use Rattle.ef_core.specs.Lexeme.{Lexeme, TheWord}
@@ -12,25 +12,7 @@ use Rattle.ef_io.specs.Count.{Rose}
 use Rattle.ef_io.specs.declared.sink.Failed.{Failed}
 use Rattle.ef_io.specs.Sink.{SinkView, IsAppended, Stays, Puts, HasWriteCause, FitsIn, with_more, plus}
 use Rattle.ef_io.specs.Laws.{appended_twice}
-use Rattle.ef_print.specs.Prints.{Wrote, Stopped, IsTooSmall, Appends, Prints, Ended, Finished}
-
--- ---- what one `put` shows
-
-too_small : (room : Option ℕ) (n : ℕ) (e : Failed) → FitsIn room n (let r : Result Unit Failed = Err e in r) → IsTooSmall room n
-too_small None n e fits = tt
-too_small (Some room) n e fits = λ le. absurd (let ok = fits le in cc)
-
-pub put_appends : (old new : SinkView) (bytes : List ℕ) (r : Result Unit Failed) → Stays old new → Puts old new bytes r → HasWriteCause old new r → FitsIn old.room (length bytes) r → Appends old (Ok tt) bytes new r
-put_appends old new bytes (Ok _) stays puts cause fits = record { appended = puts; stays = stays; faults = cause }
-put_appends old new bytes (Err e) stays puts cause fits = record {
-  written = puts.0;
-  within = puts.1;
-  appended = puts.2;
-  stays = stays;
-  count = cause.0;
-  rose = cause.1;
-  room = too_small old.room (length bytes) e fits;
-}
+use Rattle.ef_print.specs.Prints.{Wrote, Stopped, IsTooSmall, Appends, Printed, Prints, Ended, Finished}
 
 -- ---- sequences
 
@@ -101,30 +83,35 @@ ends-append : (last : Last) (ps qs : List Piece) → ends last (ps ++ qs) ≡ en
 ends-append last [] qs = refl
 ends-append last (p ∷ ps) qs = ends-append (after_piece last p) ps qs
 
-pub prints_then : (old mid new : SinkView) (r q t : Result Last Failed) (ps qs : List Piece) → Prints old r ps mid q → Prints mid q qs new t → Prints old r (ps ++ qs) new t
-prints_then old mid new (Ok last) (Ok next) (Ok end) ps qs first second =
+printed_then : (old mid new : SinkView) (r q t : Result Last Failed) (ps qs : List Piece) → Printed old r ps mid q → Printed mid q qs new t → Printed old r (ps ++ qs) new t
+printed_then old mid new (Ok last) (Ok next) (Ok end) ps qs first second =
     let behind : Wrote mid new (lay (ends last ps) qs) = subst (λ l. Wrote mid new (lay l qs)) first.1 second.0 in (
       subst (Wrote old new) (sym (lay-append last ps qs)) (wrote_both old mid new (lay last ps) (lay (ends last ps) qs) first.0 behind),
       second.1 ∙ ap (λ l. ends l qs) first.1 ∙ sym (ends-append last ps qs),
     )
-prints_then old mid new (Ok last) (Ok next) (Err _) ps qs first second =
+printed_then old mid new (Ok last) (Ok next) (Err _) ps qs first second =
     let behind : Stopped mid new (lay (ends last ps) qs) = subst (λ l. Stopped mid new (lay l qs)) first.1 second in
     subst (Stopped old new) (sym (lay-append last ps qs)) (wrote_stopped old mid new (lay last ps) (lay (ends last ps) qs) first.0 behind)
-prints_then old mid new (Ok last) (Err _) (Ok _) ps qs first second = absurd second
-prints_then old mid new (Ok last) (Err _) (Err _) ps qs first second =
+printed_then old mid new (Ok last) (Err _) (Ok _) ps qs first second = absurd second
+printed_then old mid new (Ok last) (Err _) (Err _) ps qs first second =
     subst (λ v. Stopped old v (lay last (ps ++ qs))) (sym second)
     (subst (Stopped old mid) (sym (lay-append last ps qs)) (stopped_first old mid (lay last ps) (lay (ends last ps) qs) first))
-prints_then old mid new (Err _) (Ok _) t ps qs first second = absurd first
-prints_then old mid new (Err _) (Err _) (Ok _) ps qs first second = absurd second
-prints_then old mid new (Err _) (Err _) (Err _) ps qs first second = second ∙ first
+printed_then old mid new (Err _) (Ok _) t ps qs first second = absurd first
+printed_then old mid new (Err _) (Err _) (Ok _) ps qs first second = absurd second
+printed_then old mid new (Err _) (Err _) (Err _) ps qs first second = second ∙ first
+
+-- one behind another
+infixr 10 ◌▸◌
+pub ◌▸◌ : {old mid new : SinkView} {r q t : Result Last Failed} {ps qs : List Piece} → Prints old r ps mid q → Prints mid q qs new t → Prints old r (ps ++ qs) new t
+first ▸ second = record { as_told = printed_then _ _ _ _ _ _ _ _ first.as_told second.as_told }
 
 -- the same pieces, spelled otherwise
-pub prints_as : (old new : SinkView) (r q : Result Last Failed) (ps qs : List Piece) → ps ≡ qs → Prints old r ps new q → Prints old r qs new q
-prints_as old new r q ps qs same h = subst (λ all. Prints old r all new q) same h
+pub prints_as : {old new : SinkView} {r q : Result Last Failed} {ps qs : List Piece} → ps ≡ qs → Prints old r ps new q → Prints old r qs new q
+prints_as {old} {new} {r} {q} same h = subst (λ all. Prints old r all new q) same h
 
 -- ---- a lexeme
 
-lexeme_prints : (old new : SinkView) (last : Last) (l : Lexeme) (r : Result Unit Failed) (q : Result Last Failed) → Appends old (Ok tt) (gap last l ++ spelling l) new r → Ended r (after l) q → Prints old (Ok last) (Put l ∷ []) new q
+lexeme_prints : (old new : SinkView) (last : Last) (l : Lexeme) (r : Result Unit Failed) (q : Result Last Failed) → Appends old (Ok tt) (gap last l ++ spelling l) new r → Ended r (after l) q → Printed old (Ok last) (Put l ∷ []) new q
 lexeme_prints old new last l (Ok _) (Ok next) wrote ended =
     (subst (Wrote old new) (sym (append-nil (gap last l ++ spelling l))) wrote, ended)
 lexeme_prints old new last l (Ok _) (Err _) wrote ended = absurd ended
@@ -137,7 +124,7 @@ pub gap_and_text : (old mid new : SinkView) (so_far : Result Last Failed) (last 
 gap_and_text old mid new so_far last l space bytes q r t was is_gap is_text first second ended =
     let both = appends_then old mid new (Ok tt) q r space bytes first second in
     let whole : Appends old (Ok tt) (gap last l ++ spelling l) new r = subst (λ b. Appends old (Ok tt) b new r) (λ i. is_gap i ++ is_text i) both in
-    subst (λ s. Prints old s (Put l ∷ []) new t) (sym was) (lexeme_prints old new last l r t whole ended)
+    subst (λ s. Prints old s (Put l ∷ []) new t) (sym was) record { as_told = lexeme_prints old new last l r t whole ended }
 
 pub word_gap : (last : Last) (w : Word) → plain_gap last ≡ gap last (TheWord w)
 word_gap Start w = refl
@@ -184,11 +171,8 @@ wrote_none v = record {
   nothing_less (Some n) = ap Some (omega arith)
 
 pub prints_none : (v : SinkView) (r : Result Last Failed) → Prints v r [] v r
-prints_none v (Ok last) = (wrote_none v, refl)
-prints_none v (Err _) = refl
-
-pub line_begins : (v : SinkView) (last next : Last) → next ≡ Newline → Prints v (Ok last) (Break ∷ []) v (Ok next)
-line_begins v last next is = (wrote_none v, is)
+prints_none v (Ok last) = record { as_told = (wrote_none v, refl) }
+prints_none v (Err _) = record { as_told = refl }
 
 pub appends_none : (v : SinkView) (r : Result Unit Failed) → Appends v r [] v r
 appends_none v (Ok _) = wrote_none v
@@ -222,7 +206,7 @@ module _ (old new : SinkView) (bytes : List ℕ) where
   all_fits (Err e) h = is_small old.room (length bytes) e h.room
 
 -- the pieces, and then the end of the last line
-pub text_printed : (old mid new : SinkView) (ps : List Piece) (q : Result Last Failed) (r t : Result Unit Failed) → Prints old (Ok Start) ps mid q → Finished q r → Appends mid r (10 ∷ []) new t → Appends old (Ok tt) (lay Start ps ++ 10 ∷ []) new t
+pub text_printed : (old mid new : SinkView) (ps : List Piece) (q : Result Last Failed) (r t : Result Unit Failed) → Printed old (Ok Start) ps mid q → Finished q r → Appends mid r (10 ∷ []) new t → Appends old (Ok tt) (lay Start ps ++ 10 ∷ []) new t
 text_printed old mid new ps (Ok _) (Ok _) t first same second = appends_then old mid new (Ok tt) (Ok tt) t (lay Start ps) (10 ∷ []) first.0 second
 text_printed old mid new ps (Ok _) (Err _) t first same second = absurd same
 text_printed old mid new ps (Err _) (Ok _) t first same second = absurd same

@@ -1,7 +1,7 @@
 -- What a printer does. It is given what the printers before it came to, and after a fault of theirs it writes nothing.
 use Rattle.std.specs.Prelude.{ℕ, List, ◌≡◌, ◌≤◌, Option, Some, None, Result, Ok, Err, length, take}
 use Rattle.ef_core.specs.declared.layout.Last.{Last}
-use Rattle.ef_core.specs.Layout.{Piece, lay, ends}
+use Rattle.ef_core.specs.Pieces.{Piece, lay, ends}
 use Rattle.ef_io.specs.Count.{Rose}
 use Rattle.ef_io.specs.declared.sink.Failed.{Failed}
 use Rattle.ef_io.specs.Sink.{SinkView, IsAppended, Stays}
@@ -33,12 +33,16 @@ Appends old (Ok _) bytes new (Err _) = Stopped old new bytes
 Appends old (Err _) bytes new (Ok _) = ⊥
 Appends old (Err _) bytes new (Err _) = new ≡ old
 
--- these pieces are printed behind what was printed so far
-abbrev pub Prints : SinkView → Result Last Failed → List Piece → SinkView → Result Last Failed → Type 0
-Prints old (Ok last) ps new (Ok next) = Wrote old new (lay last ps) × (next ≡ ends last ps)
-Prints old (Ok last) ps new (Err _) = Stopped old new (lay last ps)
-Prints old (Err _) ps new (Ok _) = ⊥
-Prints old (Err _) ps new (Err _) = new ≡ old
+-- the text of these pieces is appended to what was printed so far, and the last of them leaves the next gap
+abbrev pub Printed : SinkView → Result Last Failed → List Piece → SinkView → Result Last Failed → Type 0
+Printed old (Ok last) ps new (Ok next) = Wrote old new (lay last ps) × (next ≡ ends last ps)
+Printed old (Ok last) ps new (Err _) = Stopped old new (lay last ps)
+Printed old (Err _) ps new (Ok _) = ⊥
+Printed old (Err _) ps new (Err _) = new ≡ old
+
+-- the same as a record, from which a lemma tells what it speaks of
+pub record Prints (old : SinkView) (so_far : Result Last Failed) (ps : List Piece) (new : SinkView) (now : Result Last Failed) : Type 0 where
+  pub as_told : Printed old so_far ps new now
 
 -- what follows the text of a lexeme
 abbrev pub Ended : Result Unit Failed → Last → Result Last Failed → Type 0

@@ -2,7 +2,7 @@
 ghost use Rattle.std.specs.Prelude.{◌≡◌, [], ◌∷◌, true, false, ◌<◌, ◌^◌, codes, flat_map};
 ghost use Rattle.std.specs.Fmt.{digits, digit_glyph};
 ghost use Rattle.std.specs.Str.{chars};
-ghost use Rattle.ef_core.specs.Layout.{escaped, hex_escape};
+ghost use Rattle.ef_core.specs.Pieces.{escaped, hex_escape};
 ghost use Rattle.ef_print.specs.Prints.{Appends};
 
 use crate::bytes::write;

@@ -1,7 +1,7 @@
 // What stands between two lexemes, and the texts of words and symbols.
 ghost use Rattle.std.specs.Prelude.{◌≡◌};
 ghost use Rattle.ef_core.specs.Lexeme as spec;
-ghost use Rattle.ef_core.specs.Layout as layout;
+ghost use Rattle.ef_core.specs.Pieces as layout;
 
 use ef_core::{Last, Symbol, Word};
 

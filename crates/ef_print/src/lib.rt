@@ -2,12 +2,18 @@
 #![tactic(auto)]
 
 mod bytes;
+mod clause;
 mod escape;
 mod expr;
+mod functions;
 mod gap;
 mod lexeme;
+mod literal;
 mod module;
+mod pattern;
+mod segment;
 #[cfg(test)]
 mod tests;
+mod vars;
 
 pub use module::print;

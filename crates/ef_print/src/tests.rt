@@ -1,16 +1,15 @@
 // Printed texts.
 ghost use Rattle.std.specs.Prelude.{◌≡◌, IfOk};
 ghost use Rattle.ef_base.specs.Texts.{HasName};
-ghost use Rattle.ef_core.specs.OfTable.{CoreModuleOf, CoreOf};
-ghost use Rattle.ef_core.specs.Plain.{plain, plain_module};
+ghost use Rattle.ef_core.specs.OfTable.{CoreModuleOf};
+ghost use Rattle.ef_core.specs.Plain.{plain_module};
 
-use crate::expr::print_expr;
+mod every;
+
 use crate::lexeme::{print_atom, print_int};
 use crate::print;
 use ef_base::{Name, Names, NoMemory};
-use ef_core::{
-    CoreAttribute, CoreDef, CoreExpr, CoreLit, CoreModule, CoreVar, FName, Last, LetStep,
-};
+use ef_core::{CoreAttribute, CoreDef, CoreExpr, CoreLit, CoreModule, CoreVar, FName, Last};
 use ef_io::MemorySink;
 use std::alloc::Global;
 use std::process::Abort;
@@ -107,61 +106,5 @@ fn a_module(rt: HostRuntime) -> Result<(), Fail> {
         assert!(rt; whole == (printed.len() == want.len()));
         assert_eq!(rt; sink.bytes(), printed.as_bytes());
     }
-    Ok(())
-}
-
-// `let <> = apply 'A'/0() in let _0 = 1 in let <_0, _1> = call 'A':'A'(_0, _1) in 'A'`, a let on each line.
-#[tactic(auto, using(ef_core::specs::Laws::plain_laws))]
-fn run_of_lets(alloc: Global, names: &Names, name: Name) -> Result<CoreExpr, NoMemory>
-    requires { HasName names.now name }
-    ensures { IfOk result (λ e. CoreOf names.now (plain e)) }
-{
-    let target = Box::new(alloc, CoreExpr::FunName(FName { name, arity: 0 }))?;
-    let mut vars = Vec::new(alloc);
-    vars.push(CoreVar::Numbered(0))?;
-    vars.push(CoreVar::Numbered(1))?;
-    let mut one = Vec::new(alloc);
-    one.push(CoreVar::Numbered(0))?;
-    let mut args = Vec::new(alloc);
-    args.push(CoreExpr::Var(CoreVar::Numbered(0)))?;
-    args.push(CoreExpr::Var(CoreVar::Numbered(1)))?;
-    let apply = CoreExpr::Apply {
-        target,
-        args: Vec::new(alloc),
-    };
-    let call = CoreExpr::Call {
-        module: Box::new(alloc, CoreExpr::Lit(CoreLit::Atom(name)))?,
-        function: Box::new(alloc, CoreExpr::Lit(CoreLit::Atom(name)))?,
-        args,
-    };
-    let mut steps = Vec::new(alloc);
-    steps.push(LetStep {
-        vars: Vec::new(alloc),
-        value: apply,
-    })?;
-    steps.push(LetStep {
-        vars: one,
-        value: CoreExpr::Lit(CoreLit::Int(1)),
-    })?;
-    steps.push(LetStep { vars, value: call })?;
-    Ok(CoreExpr::Lets {
-        steps,
-        body: Box::new(alloc, CoreExpr::Lit(CoreLit::Atom(name)))?,
-    })
-}
-
-#[test]
-fn lets(rt: HostRuntime) -> Result<(), Fail> {
-    let alloc = rt.alloc();
-    let mut names = Names::new(alloc);
-    let name = names.intern("A").ok().ok_or("memory")?;
-    let run = run_of_lets(alloc, &names, name).ok().ok_or("memory")?;
-    let mut sink = MemorySink::new(alloc, 200, Vec::new(alloc))
-        .ok()
-        .ok_or("memory")?;
-    assert!(rt; print_expr(&names, &mut sink, Ok(Last::Start), &run).is_ok());
-    let want =
-        "let <> = apply 'A'/0() in\nlet _0 = 1 in\nlet <_0, _1> = call 'A':'A'(_0, _1) in\n'A'";
-    assert_eq!(rt; sink.bytes(), want.as_bytes());
     Ok(())
 }

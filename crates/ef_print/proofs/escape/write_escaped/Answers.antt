@@ -2,7 +2,7 @@ use Rattle.std.proofs.Common.{◌≡◌, ℕ, List, [], ◌∷◌, length, refl,
 use Rattle.std.specs.Prelude.{flat_map}
 use Rattle.std.specs.Str.{chars}
 use Rattle.std.proofs.lemmas.Str.{IsUtf8-past_char, chars_past_char}
-use Rattle.ef_core.specs.Layout.{escaped}
+use Rattle.ef_core.specs.Pieces.{escaped}
 use Rattle.ef_print.proofs.Written.{appends_as, appends_then, appends_none}
 use Rattle.ef_print.proofs.escape.write_escaped.Goals as goal
 

@@ -2,7 +2,7 @@ use Rattle.std.proofs.Common.{◌≡◌, true, IsUtf8, Result}
 use Rattle.std.specs.Prelude.{flat_map}
 use Rattle.std.specs.Str.{chars}
 use Rattle.std.specs.Str.Iter.{chars_rest}
-use Rattle.ef_core.specs.Layout.{escaped}
+use Rattle.ef_core.specs.Pieces.{escaped}
 use Rattle.ef_io.specs.declared.sink.Failed.{Failed}
 use Rattle.ef_io.specs.Sink.{SinkView}
 use Rattle.ef_print.specs.Prints.{Appends}

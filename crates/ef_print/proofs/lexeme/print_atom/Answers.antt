@@ -3,7 +3,7 @@ use Rattle.std.specs.Prelude.{flat_map}
 use Rattle.std.specs.Str.{chars}
 use Rattle.ef_base.specs.Laws.{extends_same}
 use Rattle.ef_base.specs.Texts.{text}
-use Rattle.ef_core.specs.Layout.{escaped}
+use Rattle.ef_core.specs.Pieces.{escaped}
 use Rattle.ef_core.specs.Lexeme.{Atom}
 use Rattle.ef_print.proofs.Written.{gap_and_text, atom_gap, appends_then}
 use Rattle.ef_print.proofs.lexeme.print_atom.Goals as goal

@@ -1,7 +1,7 @@
 use Rattle.std.proofs.Common.{ap, ◌∙◌, ◌∷◌, decimal}
 use Rattle.ef_core.specs.Lexeme.{Var}
 use Rattle.ef_print.proofs.Written.{gap_and_text, var_gap, appends_then}
-use Rattle.ef_print.proofs.lexeme.print_numbered.Goals as goal
+use Rattle.ef_print.proofs.vars.print_numbered.Goals as goal
 
 pub returns-clause-prints : goal.returns-clause-prints
 returns-clause-prints g c =

@@ -3,7 +3,7 @@ use Rattle.ef_core.specs.Lexeme.{Var}
 use Rattle.ef_base.specs.Laws.{extends_same}
 use Rattle.ef_base.specs.Texts.{text}
 use Rattle.ef_print.proofs.Written.{gap_and_text, var_gap}
-use Rattle.ef_print.proofs.lexeme.print_named.Goals as goal
+use Rattle.ef_print.proofs.vars.print_named.Goals as goal
 
 pub returns-clause-prints : goal.returns-clause-prints
 returns-clause-prints g c =

@@ -1,0 +1,263 @@
+-- The source is never without meaning where each name is bound and each function that is called is defined.
+use Rattle.std.proofs.Common.{◌≡◌, ◌≢◌, ℕ, zero, suc, ◌≤◌, ◌&&◌, ◌||◌, ◌==◌, Bool, true, false, if◌then◌else◌, codes, bytes_eq, List, [], ◌∷◌, length, Option, Some, None, refl, sym, ap, ◌∙◌, subst, arith}
+use Rattle.std.specs.Prelude.{slice_get}
+use Rattle.ef_base.specs.declared.name.Name.{Name}
+use Rattle.ef_base.specs.Texts.{text}
+use Rattle.ef_forms.specs.Tree.{Tree, Shape, Trees, Clauses, tree, int, atom, var, call, remote, end, more, no_guard, or_guard, no_clauses, clause, count}
+use Rattle.ef_meaning.specs.Value.{Value, Atom, Local, External, Made, some, values_of}
+use Rattle.ef_meaning.specs.Exception.{Class, Error, function_clause}
+use Rattle.ef_meaning.specs.Lookup.{FunctionKey, find, keys, nth}
+use Rattle.ef_meaning.specs.Proper.{Known, is_proper, are_proper, has_function, is_the_arity}
+use Rattle.ef_meaning.specs.Outside.{Item, Answer, Raise, Arrive, TimeUp, CallBack, Returned, Excepted, Called, GaveBack, with_items, arrived, shows}
+use Rattle.ef_meaning.specs.End.{End, Gives, Raises, Waits, More, Wrong, and_then, and_either}
+use Rattle.ef_meaning.specs.Called as called
+use Rattle.ef_meaning.specs.Called.{Apply, is_applicable, fits, takes, taken, answered, apply}
+use Rattle.ef_meaning.specs.Match.{Bindings, value_of, match_all}
+use Rattle.ef_meaning.specs.Source.{Function, Body, by_clauses, information, Source, Levels, Module, applied, of_arity, arities, side, beside, eval, eval_shape, eval_all, eval_body, pick, run_body, levels, target, named, chosen}
+use Rattle.ef_meaning.proofs.CalledLaws.{back}
+
+-- ---- what is safe
+
+abbrev pub IsBoundTo : Name → Bindings → Type 0
+IsBoundTo n b = (v : Value) × (value_of n b ≡ Some v)
+
+abbrev pub IsFound : Module → List ℕ → ℕ → Type 0
+IsFound w f a = (g : Function) × (find f a w.functions ≡ Some g)
+
+module _ (w : Module) (b : Bindings) where
+  abbrev mutual
+    pub IsSafe : Tree → Type 0
+    IsSafe (tree p e) = IsSafeShape e
+
+    pub IsSafeShape : Shape → Type 0
+    IsSafeShape (int i) = Unit {0}
+    IsSafeShape (atom n) = Unit {0}
+    IsSafeShape (var n) = IsBoundTo n b
+    IsSafeShape (call f es) = IsSafeTarget f (count es) × AreSafe es
+    IsSafeShape (remote m f es) = IsSafe m × IsSafe f × AreSafe es
+
+    -- only functions of the module are called
+    pub IsSafeTarget : Tree → ℕ → Type 0
+    IsSafeTarget (tree p (atom n)) a = IsFound w (text w.texts n) a
+    IsSafeTarget _ a = ⊥
+
+    pub AreSafe : Trees → Type 0
+    AreSafe end = Unit {0}
+    AreSafe (more e es) = IsSafe e × AreSafe es
+
+-- whatever the patterns match, the body is safe
+abbrev pub AreSafeClauses : Module → Bindings → Clauses → Type 0
+AreSafeClauses w saved no_clauses = Unit {0}
+AreSafeClauses w saved (clause p ps g body cs) =
+    (g ≡ no_guard) × (1 ≤ count body) × ((vs : List Value) (b : Bindings) → match_all w.texts ps vs saved ≡ Some b → AreSafe w b body) × AreSafeClauses w saved cs
+
+abbrev pub IsSafeBody : Module → Body → Type 0
+IsSafeBody w (by_clauses cs saved) = AreSafeClauses w saved cs
+IsSafeBody w information = Unit {0}
+
+abbrev pub AreSafeFunctions : Module → List Function → Type 0
+AreSafeFunctions w [] = Unit {0}
+AreSafeFunctions w (f ∷ fs) = IsSafeBody w f.body × AreSafeFunctions w fs
+
+-- each function of the module is safe
+pub record IsSafeModule (w : Module) : Type 0 where
+  pub each : (f : List ℕ) (a : ℕ) (g : Function) → find f a w.functions ≡ Some g → IsSafeBody w g.body
+
+-- ---- ends that have a meaning, and leave made funs that are safe
+
+abbrev pub Fine : {A : Type 0} → Module → (A → Type 0) → End A Source → Type 0
+Fine w P (Gives a s) = P a × AreSafeFunctions w s.store
+Fine w P (Raises c v s) = AreSafeFunctions w s.store
+Fine w P (Waits s) = Unit {0}
+Fine w P (More s) = Unit {0}
+Fine w P Wrong = ⊥
+
+abbrev pub Any : Value → Type 0
+Any v = Unit {0}
+
+pub then_fine : {A B : Type 0} (w : Module) (P : A → Type 0) (R : B → Type 0) (e : End A Source) (go : A → Source → End B Source) → Fine w P e → ((a : A) (s : Source) → P a → AreSafeFunctions w s.store → Fine w R (go a s)) → Fine w R (and_then e go)
+then_fine w P R (Gives a s) go p k = k a s p.0 p.1
+then_fine w P R (Raises c v s) go p k = p
+then_fine w P R (Waits s) go p k = tt
+then_fine w P R (More s) go p k = tt
+then_fine w P R Wrong go p k = p
+
+either_fine : (w : Module) (e : End Value Source) (go : Value → Source → End Value Source) (bad : Class → Value → Source → End Value Source) → Fine w Any e → ((a : Value) (s : Source) → AreSafeFunctions w s.store → Fine w Any (go a s)) → ((c : Class) (v : Value) (s : Source) → AreSafeFunctions w s.store → Fine w Any (bad c v s)) → Fine w Any (and_either e go bad)
+either_fine w (Gives a s) go bad p k l = k a s p.1
+either_fine w (Raises c v s) go bad p k l = l c v s p
+either_fine w (Waits s) go bad p k l = tt
+either_fine w (More s) go bad p k l = tt
+either_fine w Wrong go bad p k l = p
+
+-- ---- applications
+
+-- a fun that stands for a function which is safe
+abbrev IsReadyFun : Module → Value → Source → Type 0
+IsReadyFun w (Local f a) s = (g : Function) × (find f a w.functions ≡ Some g) × IsSafeBody w g.body
+IsReadyFun w (Made k a) s = (g : Function) × (of_arity a (nth s.store k) ≡ Some g) × IsSafeBody w g.body
+IsReadyFun w _ s = Unit {0}
+
+abbrev pub LevelsFine : Module → Levels → Type 0
+LevelsFine w [] = Unit {0}
+LevelsFine w (l ∷ ls) = ((f : Function) (vs : List Value) (s : Source) → IsSafeBody w f.body → AreSafeFunctions w s.store → Fine w Any (l f vs s)) × LevelsFine w ls
+
+some_applied : (w : Module) (o : Option Function) (g : Function) (ls : Levels) (vs : List Value) (s : Source) → LevelsFine w ls → o ≡ Some g → IsSafeBody w g.body → AreSafeFunctions w s.store → Fine w Any (applied o ls vs s)
+some_applied w o g [] vs s fine is safe all = subst (λ p. Fine w Any (applied p [] vs s)) (sym is) tt
+some_applied w o g (l ∷ ls) vs s fine is safe all = subst (λ p. Fine w Any (applied p (l ∷ ls) vs s)) (sym is) (fine.0 g vs s safe all)
+
+if_fine : (w : Module) (t : Bool) (e f : End Value Source) → Fine w Any e → Fine w Any f → Fine w Any (if t then e else f)
+if_fine w true e f p q = p
+if_fine w false e f p q = q
+
+fun_fine : (w : Module) (ls : Levels) → LevelsFine w ls → ((s : Source) → AreSafeFunctions w s.store → Fine w Any (answered (side w) ls s)) → (f : Value) (vs : List Value) (s : Source) → IsReadyFun w f s → AreSafeFunctions w s.store → Fine w Any (apply (side w) ls f vs s)
+fun_fine w ls fine calls (Local f a) vs s ready all = if_fine w (length vs == a) _ _ (some_applied w (find f a w.functions) ready.0 ls vs s fine ready.1 ready.2 all) all
+fun_fine w ls fine calls (Made k a) vs s ready all = if_fine w (length vs == a) _ _ (some_applied w (of_arity a (nth s.store k)) ready.0 ls vs s fine ready.1 ready.2 all) all
+fun_fine w ls fine calls (External m f a) vs s ready all = if_fine w (length vs == a) _ _ (calls (shows (Called m f vs) s) all) all
+fun_fine w ls fine calls _ vs s ready all = all
+
+-- ---- proper funs are ready
+
+proper_local : (f : List ℕ) (a : ℕ) (gs : List (FunctionKey × Function)) → has_function (keys gs) f a ≡ true → (g : Function) × (find f a gs ≡ Some g)
+proper_local f a [] p = absurd cc
+proper_local f a (g ∷ gs) p = by (bytes_eq g.0.name f && g.0.arity == a) (λ e. proper_local f a gs e) p
+  where
+    by : (t : Bool) → (has_function (keys gs) f a ≡ true → (h : Function) × (find f a gs ≡ Some h)) → (t || has_function (keys gs) f a) ≡ true → (h : Function) × ((if t then Some g.1 else find f a gs) ≡ Some h)
+    by true k e = (g.1, refl)
+    by false k e = k e
+
+module _ (w : Module) where
+  made_slice : (a : ℕ) (fs : List Function) (k : ℕ) → AreSafeFunctions w fs → is_the_arity (slice_get (arities fs) k) a ≡ true → (g : Function) × (of_arity a (slice_get fs k) ≡ Some g) × IsSafeBody w g.body
+  made_slice a [] k all p = absurd cc
+  made_slice a (f ∷ fs) zero all p = (f, ap (λ t. if t then Some f else None) p, all.0)
+  made_slice a (f ∷ fs) (suc k) all p = made_slice a fs k all.1 p
+
+  proper_made : (a : ℕ) (fs : List Function) (k : ℕ) → AreSafeFunctions w fs → is_the_arity (nth (arities fs) k) a ≡ true → (g : Function) × (of_arity a (nth fs k) ≡ Some g) × IsSafeBody w g.body
+  proper_made a fs zero all p = absurd cc
+  proper_made a fs (suc k) all p = made_slice a fs k all p
+
+  proper_ready : IsSafeModule w → (f : Value) (s : Source) → AreSafeFunctions w s.store → is_proper ((side w).known s.store) f ≡ true → IsReadyFun w f s
+  proper_ready safe (Local f a) s all p = let g = proper_local f a w.functions p in (g.0, g.1, safe.each f a g.0 g.1)
+  proper_ready safe (Made k a) s all p = proper_made a s.store k all p
+  proper_ready safe _ s all p = tt
+
+  -- ---- calls
+
+  module _ (safe : IsSafeModule w) where
+    both_left : (a b : Bool) → (a && b) ≡ true → a ≡ true
+    both_left true b p = refl
+    both_left false b p = absurd cc
+
+    both_right : (a b : Bool) → (a && b) ≡ true → b ≡ true
+    both_right true b p = p
+    both_right false b p = absurd cc
+
+    -- what an item does, where the next ones are fine
+    item_fine : (go : Apply (List Function)) (next : Source → End Value Source) (i : Item) (s : Source) → AreSafeFunctions w s.store →
+        ((f : Value) (vs : List Value) (t : Source) → IsReadyFun w f t → AreSafeFunctions w t.store → Fine w Any (go f vs t)) → ((t : Source) → t.store ≡ s.store → Fine w Any (next t)) →
+        fits ((side w).known s.store) i ≡ true → Fine w Any (takes go next i s)
+    item_fine go next (Answer v) s all k l p = (tt, all)
+    item_fine go next (Raise c v) s all k l p = all
+    item_fine go next (Arrive v) s all k l p = l (arrived v s) refl
+    item_fine go next TimeUp s all k l p = l s refl
+    item_fine go next (CallBack f vs) s all k l p =
+        let known : Known = (side w).known s.store in
+        k f vs s (proper_ready safe f s all (both_left (is_proper known f) (are_proper known (values_of vs)) (both_right (is_applicable f) (are_proper known (some f (values_of vs))) p))) all
+
+    when_fine : (t : Bool) (e f : End Value Source) → (t ≡ true → Fine w Any e) → Fine w Any f → Fine w Any (if t then e else f)
+    when_fine true e f p q = p refl
+    when_fine false e f p q = q
+
+    taken_fine : (go : Apply (List Function)) (is : List Item) (s : Source) (fs : List Function) → s.store ≡ fs → AreSafeFunctions w fs →
+        ((f : Value) (vs : List Value) (t : Source) → IsReadyFun w f t → AreSafeFunctions w t.store → Fine w Any (go f vs t)) → Fine w Any (taken ((side w).known fs) go is s)
+    taken_fine go [] s fs same all k = tt
+    taken_fine go (i ∷ is) s fs same all k =
+        when_fine (fits ((side w).known fs) i) _ _
+        (λ p. item_fine go (λ x. taken ((side w).known fs) go is x) i (with_items is s) (subst (AreSafeFunctions w) (sym same) all) k (λ t e. taken_fine go is t fs (e ∙ same) all k)
+        (subst (λ z. fits ((side w).known z) i ≡ true) (sym same) p))
+        (taken_fine go is s fs same all k)
+
+    pub answered_fine : (ls : Levels) → LevelsFine w ls → (s : Source) → AreSafeFunctions w s.store → Fine w Any (answered (side w) ls s)
+    answered_fine [] fine s all = taken_fine (λ f vs t. More t) s.outside.items s s.store refl all (λ f vs t ready q. tt)
+    answered_fine (l ∷ ls) fine s all = taken_fine (back (side w) ls) s.outside.items s s.store refl all
+        (λ f vs t ready q. either_fine w (apply (side w) ls f vs t) _ _ (fun_fine w ls fine.1 (answered_fine ls fine.1) f vs t ready q)
+        (λ v u r. answered_fine ls fine.1 (shows (GaveBack (Returned v)) u) r)
+        (λ c v u r. answered_fine ls fine.1 (shows (GaveBack (Excepted c v)) u) r))
+
+    pub remote_fine : (ls : Levels) → LevelsFine w ls → (m f : Value) (vs : List Value) (s : Source) → AreSafeFunctions w s.store → Fine w Any (called.remote (side w) ls m f vs s)
+    remote_fine ls fine (Atom m) (Atom f) vs s all = answered_fine ls fine (shows (Called m f vs) s) all
+    remote_fine ls fine _ _ vs s all = all
+
+    pub local_fine : (ls : Levels) → LevelsFine w ls → (f : List ℕ) (a : ℕ) (g : Function) → find f a w.functions ≡ Some g → (vs : List Value) (s : Source) → AreSafeFunctions w s.store → Fine w Any (apply (side w) ls (Local f a) vs s)
+    local_fine ls fine f a g is vs s all = fun_fine w ls fine (answered_fine ls fine) (Local f a) vs s (g, is, safe.each f a g is) all
+
+    -- ---- expressions
+
+    -- the bindings stay
+    abbrev Stays : Bindings → (Value × Bindings) → Type 0
+    Stays b a = a.1 ≡ b
+
+    abbrev StayAll : Bindings → (List Value × Bindings) → Type 0
+    StayAll b a = a.1 ≡ b
+
+    beside_fine : (b c : Bindings) (e : End Value Source) → c ≡ b → Fine w Any e → Fine w (Stays b) (beside c e)
+    beside_fine b c e same p = then_fine w Any (Stays b) e (λ v t. Gives (v, c) t) p (λ v t q all. (same, all))
+
+    module _ (b : Bindings) where
+      mutual
+        eval_fine : (e : Tree) (ls : Levels) (c : Bindings) (s : Source) → LevelsFine w ls → AreSafeFunctions w s.store → c ≡ b → IsSafe w b e → Fine w (Stays b) (eval w e ls c s)
+        eval_fine (tree p e) ls c s fine all same is = shape_fine e ls c s fine all same is
+
+        shape_fine : (e : Shape) (ls : Levels) (c : Bindings) (s : Source) → LevelsFine w ls → AreSafeFunctions w s.store → c ≡ b → IsSafeShape w b e → Fine w (Stays b) (eval_shape w e ls c s)
+        shape_fine (int i) ls c s fine all same is = (same, all)
+        shape_fine (atom n) ls c s fine all same is = (same, all)
+        shape_fine (var n) ls c s fine all same is = subst (λ o. Fine w (Stays b) (named o c s)) (sym (ap (value_of n) same ∙ is.1)) (same, all)
+        shape_fine (call (tree p (atom n)) es) ls c s fine all same is =
+            subst (λ o. Fine w (Stays b) (and_then (target o (text w.texts n) (count es) c s) (λ g t. and_then (eval_all w es ls g.1 t) (λ a u. beside a.1 (apply (side w) ls g.0 a.0 u))))) (sym is.0.1)
+            (then_fine w (StayAll b) (Stays b) (eval_all w es ls c s) _ (all_fine es ls c s fine all same is.1)
+            (λ a u i o. beside_fine b a.1 _ i (local_fine ls fine (text w.texts n) (count es) is.0.0 is.0.1 a.0 u o)))
+        shape_fine (call (tree p _) es) ls c s fine all same is = absurd is.0
+        shape_fine (remote m f es) ls c s fine all same is = then_fine w (Stays b) (Stays b) (eval w m ls c s) _ (eval_fine m ls c s fine all same is.0) (λ g t p q.
+            then_fine w (Stays b) (Stays b) (eval w f ls g.1 t) _ (eval_fine f ls g.1 t fine q p is.1) (λ h u r z.
+            then_fine w (StayAll b) (Stays b) (eval_all w es ls h.1 u) _ (all_fine es ls h.1 u fine z r is.2) (λ a x i o. beside_fine b a.1 _ i (remote_fine ls fine g.0 h.0 a.0 x o))))
+
+        all_fine : (es : Trees) (ls : Levels) (c : Bindings) (s : Source) → LevelsFine w ls → AreSafeFunctions w s.store → c ≡ b → AreSafe w b es → Fine w (StayAll b) (eval_all w es ls c s)
+        all_fine end ls c s fine all same is = (same, all)
+        all_fine (more e es) ls c s fine all same is = then_fine w (Stays b) (StayAll b) (eval w e ls c s) _ (eval_fine e ls c s fine all same is.0) (λ a t p q.
+            then_fine w (StayAll b) (StayAll b) (eval_all w es ls a.1 t) _ (all_fine es ls a.1 t fine q p is.1) (λ d u r z. (r, z)))
+
+      body_fine : (es : Trees) (ls : Levels) (c : Bindings) (s : Source) → LevelsFine w ls → AreSafeFunctions w s.store → c ≡ b → 1 ≤ count es → AreSafe w b es → Fine w (Stays b) (eval_body w es ls c s)
+      body_fine end ls c s fine all same full is = absurd (omega arith)
+      body_fine (more e end) ls c s fine all same full is = eval_fine e ls c s fine all same is.0
+      body_fine (more e (more d es)) ls c s fine all same full is = then_fine w (Stays b) (Stays b) (eval w e ls c s) _ (eval_fine e ls c s fine all same is.0) (λ a t p q. body_fine (more d es) ls a.1 t fine q p (omega arith) is.1)
+
+    -- ---- functions
+
+    abbrev AnyAnswer : (Value × Bindings) → Type 0
+    AnyAnswer a = Unit {0}
+
+    clauses_fine : (cs : Clauses) (vs : List Value) (ls : Levels) (saved : Bindings) (s : Source) → LevelsFine w ls → AreSafeFunctions w s.store → AreSafeClauses w saved cs → Fine w AnyAnswer (pick w cs vs ls saved (λ t. t) (λ t. Raises Error function_clause t) s)
+    clauses_fine no_clauses vs ls saved s fine all is = all
+    clauses_fine (clause p ps (or_guard es gs) body cs) vs ls saved s fine all is = absurd cc
+    clauses_fine (clause p ps no_guard body cs) vs ls saved s fine all is = by (match_all w.texts ps vs saved) refl (clauses_fine cs vs ls saved s fine all is.3)
+      where
+        by : (o : Option Bindings) → match_all w.texts ps vs saved ≡ o → Fine w AnyAnswer (pick w cs vs ls saved (λ t. t) (λ t. Raises Error function_clause t) s) → Fine w AnyAnswer (chosen o (λ c. eval_body w body ls c s) (pick w cs vs ls saved (λ t. t) (λ t. Raises Error function_clause t) s))
+        by None e q = q
+        by (Some b) e q = weaken (eval_body w body ls b s) (body_fine b body ls b s fine all refl is.1 (is.2 vs b e))
+          where
+            weaken : (e : End (Value × Bindings) Source) → Fine w (Stays b) e → Fine w AnyAnswer e
+            weaken (Gives a t) p = (tt, p.1)
+            weaken (Raises c v t) p = p
+            weaken (Waits t) p = p
+            weaken (More t) p = p
+            weaken Wrong p = p
+
+    run_fine : (ls : Levels) (f : Body) (vs : List Value) (s : Source) → LevelsFine w ls → AreSafeFunctions w s.store → IsSafeBody w f → Fine w Any (run_body w ls f vs s)
+    run_fine ls (by_clauses cs saved) vs s fine all is = then_fine w AnyAnswer Any (pick w cs vs ls saved (λ t. t) (λ t. Raises Error function_clause t) s) _ (clauses_fine cs vs ls saved s fine all is) (λ a t p q. (tt, q))
+    run_fine ls information vs s fine all is = remote_fine ls fine (Atom (codes "erlang")) (Atom (codes "get_module_info")) (Atom w.name ∷ vs) s all
+
+    pub levels_fine : (n : ℕ) → LevelsFine w (levels w n)
+    levels_fine zero = tt
+    levels_fine (suc n) = (λ f vs s is all. run_fine (levels w n) f.body vs s (levels_fine n) all is, levels_fine n)
+
+pub fine_meant : (w : Module) (e : End Value Source) → Fine w Any e → e ≢ Wrong
+fine_meant w e p is = subst (λ x. Fine w Any x) is p

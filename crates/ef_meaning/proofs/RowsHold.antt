@@ -1,0 +1,40 @@
+-- The examples, computed.
+use Rattle.std.proofs.Common.{◌≡◌, ℕ, zero, suc, codes, [], ◌∷◌, refl, ap}
+use Rattle.ef_meaning.specs.Value.{Value, Local}
+use Rattle.ef_meaning.specs.End.{More, and_then}
+use Rattle.ef_meaning.specs.Called.{apply}
+use Rattle.ef_meaning.specs.Source as source
+use Rattle.ef_meaning.specs.Core as core
+use Rattle.ef_meaning.specs.Runs.{shown, start}
+use Rattle.ef_meaning.specs.Examples.{table, endless, core_endless}
+use Rattle.ef_meaning.specs.Rows.{Rows, on}
+
+abbrev w : source.Module
+w = source.module_of table endless
+
+abbrev cw : core.CoreModule
+cw = core.module_of table core_endless
+
+endless_on : (n : ℕ) (v : Value) (s : source.Source) → apply (source.side w) (source.levels w n) (Local (codes "f") 1) (v ∷ []) s ≡ More s
+endless_on zero v s = refl
+endless_on (suc n) v s = ap (λ e. source.value_only (source.beside ((record { index = 9 }, v) ∷ []) e)) (endless_on n v s)
+
+core_endless_on : (n : ℕ) (v : Value) (s : core.Target) → apply (core.side cw) (core.levels cw n) (Local (codes "f") 1) (v ∷ []) s ≡ More s
+core_endless_on zero v s = refl
+core_endless_on (suc n) v s = ap (λ e. and_then (core.one_value e) core.single) (core_endless_on n v s)
+
+pub rows_hold : Rows
+rows_hold = record {
+  parameter = λ v n. (refl, refl);
+  answered = (refl, refl);
+  raised = (refl, refl);
+  waiting = (refl, refl);
+  dropped = (refl, refl);
+  goes_on = λ v n. (ap shown (endless_on n v (start (on v []) [])), ap shown (core_endless_on n v (start (on v []) (record { made = []; entries = [] }))));
+  left_to_right = (refl, refl);
+  passed_over = (refl, refl);
+  arriving = (refl, refl);
+  called_back = (refl, refl);
+  called_badly = (refl, refl);
+  information = (refl, refl);
+}

@@ -1,0 +1,24 @@
+-- Exceptions: their classes, and the reasons of failures (Erlang Reference Manual, "Errors and Error Handling").
+use Rattle.std.specs.Prelude.{codes, List}
+use Rattle.ef_meaning.specs.Value.{Value, Atom, list_value, pair_value}
+
+pub data Class : Type 0 where
+  Error : Class
+  Exit : Class
+  Throw : Class
+
+-- no clause of a function matches
+abbrev pub function_clause : Value
+function_clause = Atom (codes "function_clause")
+
+-- the module or the function of a remote call is no atom
+abbrev pub badarg : Value
+badarg = Atom (codes "badarg")
+
+-- what is applied is no fun
+abbrev pub badfun : Value → Value
+badfun f = pair_value (Atom (codes "badfun")) f
+
+-- a fun is applied to another number of arguments
+abbrev pub badarity : Value → List Value → Value
+badarity f vs = pair_value (Atom (codes "badarity")) (pair_value f (list_value vs))

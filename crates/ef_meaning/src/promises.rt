@@ -1,0 +1,18 @@
+// What is proved of the meanings. The functions do nothing: their contracts are the laws, and the examples.
+ghost use Rattle.ef_meaning.specs.Laws.{BoundsExtend, EventsGrow, ModulesKeep, SourceMeant, ValuesCompare};
+ghost use Rattle.ef_meaning.specs.Rows.{CoreKeeps, Rows};
+
+/// The laws of both meanings, and of what it is to keep one.
+pub fn laws()
+    ensures values { ValuesCompare }
+    ensures events { EventsGrow }
+    ensures bounds { BoundsExtend }
+    ensures meant { SourceMeant }
+    ensures modules { ModulesKeep }
+{}
+
+/// What small modules show, in the source and in Core.
+pub fn rows()
+    ensures shown { Rows }
+    ensures kept { CoreKeeps }
+{}

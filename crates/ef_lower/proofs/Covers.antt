@@ -6,8 +6,8 @@ use Rattle.ef_base.specs.declared.fault.Place.{Place}
 use Rattle.ef_base.specs.Texts.{Texts}
 use Rattle.ef_core.specs.declared.env.Bind.{Bind}
 use Rattle.ef_core.specs.Env.{held}
-use Rattle.ef_core.specs.OfTable.{Each, BindOf, VarOf}
-use Rattle.ef_core.specs.declared.tree.CoreVar.{CoreVar}
+use Rattle.ef_core.specs.Everywhere.{Each}
+use Rattle.ef_core.specs.declared.literal.CoreVar.{CoreVar}
 use Rattle.ef_forms.specs.Tree.{Tree, Shape, Trees, tree, int, atom, var, call, remote, end, more}
 use Rattle.ef_forms.specs.Ways.{NameSet, union, before, pairs, beside, names, shape_names, all_names, ways, shape_ways, side_by_side, on_some, unbound, faults, shape_faults, all_faults, body_faults}
 use Rattle.ef_lower.specs.Ready.{IsWithin, bound_names}
@@ -198,10 +198,11 @@ is_held (b ∷ bs) n here none =
 some_same : (a b : CoreVar) → Some a ≡ Some b → a ≡ b
 some_same a b same = cc
 
-pub held_of : (texts : Texts) (env : List Bind) (n : Name) (v : CoreVar) → Each (BindOf texts) env → held env n ≡ Some v → VarOf texts v
-held_of texts [] n v all is = absurd (cc)
-held_of texts (b ∷ bs) n v all is =
+-- what holds of each variable of an environment holds of one that is found there
+pub held_has : (P : CoreVar → Type 0) (env : List Bind) (n : Name) (v : CoreVar) → Each (λ b. P b.var) env → held env n ≡ Some v → P v
+held_has P [] n v all is = absurd (cc)
+held_has P (b ∷ bs) n v all is =
     elim (first_or_rest b bs n) [
-      | inl first ↦ subst (VarOf texts) (some_same b.var v (sym first ∙ is)) all.0
-      | inr rest ↦ held_of texts bs n v all.1 (sym rest.1 ∙ is)
+      | inl first ↦ subst P (some_same b.var v (sym first ∙ is)) all.0
+      | inr rest ↦ held_has P bs n v all.1 (sym rest.1 ∙ is)
     ]

@@ -1,3 +1,5 @@
 pub mod Source
 pub mod Covers
+pub mod Scopes
 pub mod Parts
+pub mod Means

@@ -13,7 +13,7 @@ use Rattle.ef_forms.specs.declared.expr.Node.TheVariants as node
 use Rattle.ef_forms.specs.declared.expr.Node.TheOpen as layer
 use Rattle.ef_forms.specs.declared.expr.Node.TheFolds.{fold-Node, fold-roll-Node, fold_out-Expr}
 use Rattle.ef_forms.specs.declared.tables.FunctionName.{FunctionName}
-use Rattle.ef_forms.specs.Built.{IsAtom, IsCallOf, IsForeignModule}
+use Rattle.ef_forms.specs.Built.{IsAtom, IsCallOf, IsDefined, IsForeignModule}
 use Rattle.ef_forms.specs.OfTable.{TreeOf}
 use Rattle.ef_forms.specs.Tree.{Tree, Shape, Trees, tree, int, atom, var, call, remote, count}
 use Rattle.ef_forms.specs.Plain.{plain, plain_all, shape_layer, tree_layer}
@@ -80,6 +80,10 @@ module _ (texts : Texts) (defined : List FunctionName) (env : List Bind) where
       an_atom (tree p (var n)) arity is = absurd is
       an_atom (tree p (call f es)) arity is = absurd is
       an_atom (tree p (remote m f es)) arity is = absurd is
+
+  pub call_defined : (p q : Place) (f : Tree) (es : Trees) (n : Name) (arity : ℕ) → IsReady texts defined env (tree p (call f es)) → f ≡ tree q (atom n) → arity ≡ count es → IsDefined texts defined (record { name = n; arity = arity })
+  call_defined p q f es n arity ready is number =
+      subst (λ a. IsDefined texts defined (record { name = n; arity = a })) (sym number) (subst (λ g. IsCallOf texts defined g (count es)) is ready.built.0)
 
   pub remote_args : (p : Place) (m f : Tree) (es : Trees) → IsReady texts defined env (tree p (remote m f es)) → AreReady texts defined env es
   remote_args p m f es ready = record {

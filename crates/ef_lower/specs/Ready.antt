@@ -2,6 +2,7 @@
 use Rattle.std.specs.Prelude.{ℕ, ◌≡◌, true, List, [], ◌∷◌}
 use Rattle.ef_base.specs.Texts.{Texts}
 use Rattle.ef_core.specs.declared.env.Bind.{Bind}
+use Rattle.ef_core.specs.Readable.{readable}
 use Rattle.ef_forms.specs.declared.tables.FunctionName.{FunctionName}
 use Rattle.ef_forms.specs.Tree.{Tree, Trees}
 use Rattle.ef_forms.specs.Built.{IsBuiltTree, AreBuilt, IsNarrow, AreNarrow}
@@ -12,6 +13,10 @@ use Rattle.ef_forms.specs.Ways.{NameSet, no_names, one_name, union, names, all_n
 abbrev pub bound_names : List Bind → NameSet
 bound_names [] = no_names
 bound_names (b ∷ bs) = union (one_name b.name) (bound_names bs)
+
+-- a text can say the variable
+abbrev pub IsReadableBind : Texts → Bind → Type 0
+IsReadableBind texts b = (readable texts).variable b.var
 
 abbrev pub IsWithin : NameSet → NameSet → Type 0
 IsWithin s t = (y : ℕ) → s y ≡ true → t y ≡ true

@@ -1,17 +1,20 @@
 // Expressions as let steps, and the value behind them.
 ghost use Rattle.std.specs.Prelude.{◌≡◌, ◌+◌, ◌≤◌, IfOk, Some, map, true};
 ghost use Rattle.ef_core.specs.Fresh.{most_variables};
-ghost use Rattle.ef_core.specs.OfTable.{BindOf, Each};
+ghost use Rattle.ef_core.specs.Everywhere.{Each};
 ghost use Rattle.ef_core.specs.Env.{held};
 ghost use Rattle.ef_core.specs.Plain as core;
 ghost use Rattle.ef_core.specs.Tree as c;
-ghost use Rattle.ef_core.specs.declared.tree.CoreVar.{CoreVar};
+ghost use Rattle.ef_core.specs.WellFormed.{IsInRange};
+ghost use Rattle.ef_core.specs.declared.literal.CoreVar.{CoreVar};
 ghost use Rattle.ef_forms.specs.Built.{IsAtom};
+ghost use Rattle.ef_forms.specs.Depth.{all_depth, depth};
 ghost use Rattle.ef_forms.specs.Tree.{tree, atom};
 ghost use Rattle.ef_forms.specs.Plain.{plain, plain_all};
 ghost use Rattle.ef_forms.specs.Weight.{weight, all_weight};
 ghost use Rattle.ef_lower.specs.Lowers.{Lowers, LowersAll};
-ghost use Rattle.ef_lower.specs.Ready.{AreReady, IsReady, bound_names};
+ghost use Rattle.ef_meaning.specs.Lowers.{Appends, AppendsAll, AreBelow};
+ghost use Rattle.ef_lower.specs.Ready.{AreReady, IsReadableBind, IsReady, bound_names};
 
 use crate::steps::hold;
 use ef_base::{Name, Names, NoMemory};
@@ -31,12 +34,14 @@ pub fn append(
     steps: &mut Vec<LetStep>,
 ) -> Result<CoreExpr, NoMemory>
     requires ready { IsReady names.now tables.now.functions.items env.now (plain expr.now) }
-    requires env_of_table { Each (BindOf names.now) env.now }
+    requires readable { Each (IsReadableBind names.now) env.now }
+    requires below { AreBelow fresh.old env.now }
     requires enough { fresh.old + weight (plain expr.now) ≤ most_variables }
-    ensures { IfOk result (λ v. Lowers names.now (weight (plain expr.now)) fresh.old (map core.plain_step steps.old.items) fresh.new (map core.plain_step steps.new.items) (core.plain v)) }
+    ensures lowered { IfOk result (λ v. Lowers names.now tables.now.functions.items env.now (weight (plain expr.now)) (depth (plain expr.now)) fresh.old (map core.plain_step steps.old.items) fresh.new (map core.plain_step steps.new.items) (core.plain v)) }
+    ensures means { IfOk result (λ v. Appends names.now (plain expr.now) fresh.old env.now (map core.plain_step steps.old.items) fresh.new env.now (map core.plain_step steps.new.items) (core.plain v)) }
 {
     match &expr.node {
-        Node::Int(value) => Ok(CoreExpr::Lit(CoreLit::Int(*value))),
+        Node::Int(value) => Ok(integer(*value)),
         Node::Atom(name) => Ok(CoreExpr::Lit(CoreLit::Atom(*name))),
         Node::Var(name) => Ok(variable(env, *name)),
         Node::Call { target, args } => {
@@ -77,9 +82,11 @@ fn append_all(
     steps: &mut Vec<LetStep>,
 ) -> Result<Vec<CoreExpr>, NoMemory>
     requires ready { AreReady names.now tables.now.functions.items env.now (plain_all exprs.now) }
-    requires env_of_table { Each (BindOf names.now) env.now }
+    requires readable { Each (IsReadableBind names.now) env.now }
+    requires below { AreBelow fresh.old env.now }
     requires enough { fresh.old + all_weight (plain_all exprs.now) ≤ most_variables }
-    ensures { IfOk result (λ vs. LowersAll names.now (all_weight (plain_all exprs.now)) fresh.old (map core.plain_step steps.old.items) fresh.new (map core.plain_step steps.new.items) (map core.plain vs.items)) }
+    ensures lowered { IfOk result (λ vs. LowersAll names.now tables.now.functions.items env.now (all_weight (plain_all exprs.now)) (all_depth (plain_all exprs.now)) fresh.old (map core.plain_step steps.old.items) fresh.new (map core.plain_step steps.new.items) (map core.plain vs.items)) }
+    ensures means { IfOk result (λ vs. AppendsAll names.now (map plain exprs.now) fresh.old env.now (map core.plain_step steps.old.items) fresh.new env.now (map core.plain_step steps.new.items) (map core.plain vs.items)) }
 {
     let mut values = Vec::new(alloc);
     for expr in exprs {
@@ -87,6 +94,15 @@ fn append_all(
         values.push(hold(alloc, fresh, steps, value)?)?;
     }
     Ok(values)
+}
+
+// The literal of an integer, which has its range.
+#[tactic(auto, using(ef_core::specs::Laws::plain_laws))]
+fn integer(value: i128) -> CoreExpr
+    ensures literal { core.plain result ≡ c.lit (c.int value) }
+    ensures in_range { IsInRange value }
+{
+    CoreExpr::Lit(CoreLit::Int(value))
 }
 
 // The variable that holds the value of a name.

@@ -1,16 +1,20 @@
 // The calls of this crate.
 ghost use Rattle.std.specs.Prelude.{◌≡◌, ◌+◌, ◌*◌, ◌≤◌, [], ◌∷◌, IfOk, length, map};
-ghost use Rattle.ef_base.specs.Texts.{Extends};
+ghost use Rattle.ef_base.specs.Texts.{AllDiffer, AllUtf8, Extends};
+ghost use Rattle.ef_core.specs.Depth as deep;
+ghost use Rattle.ef_core.specs.Everywhere.{Each};
 ghost use Rattle.ef_core.specs.Fresh.{most_variables};
-ghost use Rattle.ef_core.specs.OfTable.{BindOf, Each};
 ghost use Rattle.ef_core.specs.Plain as core;
 ghost use Rattle.ef_forms.specs.Built.{AreBuilt, AreNarrow, IsBuiltTree, IsNarrow};
+ghost use Rattle.ef_forms.specs.Depth.{all_depth, depth};
 ghost use Rattle.ef_forms.specs.OfTable.{TreeOf, TreesOf};
 ghost use Rattle.ef_forms.specs.Plain.{plain, plain_all};
 ghost use Rattle.ef_forms.specs.Ways.{body_faults, faults};
 ghost use Rattle.ef_forms.specs.Weight.{all_weight, weight};
 ghost use Rattle.ef_lower.specs.Lowers.{Draws, IsLowered, Lowers};
-ghost use Rattle.ef_lower.specs.Ready.{bound_names, AreReady};
+ghost use Rattle.ef_lower.specs.Ready.{AreReady, IsReadableBind, bound_names};
+ghost use Rattle.ef_lower.specs.Scope.{IsInScope};
+ghost use Rattle.ef_meaning.specs.Lowers.{AppendsLast, AreBelow, KeepsBody};
 
 use crate::append::append;
 use crate::steps::{finish, hold};
@@ -38,13 +42,19 @@ pub fn expression(
     requires built { IsBuiltTree names.old tables.now.functions.items (plain expr.now) }
     requires narrow { IsNarrow (plain expr.now) }
     requires of_table { TreeOf names.old (plain expr.now) }
-    requires env_of_table { Each (BindOf names.old) env.now }
+    requires readable { Each (IsReadableBind names.old) env.now }
     requires no_faults { faults names.old (plain expr.now) (bound_names env.now ∷ []) ≡ [] }
+    requires below { AreBelow fresh.old env.now }
     requires enough { fresh.old + 500 * weight (plain expr.now) ≤ most_variables }
     ensures kept { Extends names.old names.new }
+    ensures differ { AllDiffer names.old → AllDiffer names.new }
+    ensures utf8 { AllUtf8 names.old → AllUtf8 names.new }
     ensures lowered { IfOk result (λ r. IsLowered names.new (core.plain r.core)) }
+    ensures in_scope { IfOk result (λ r. IsInScope names.old tables.now.functions.items env.now (core.plain r.core)) }
+    ensures shallow { IfOk result (λ r. deep.depth (core.plain r.core) ≤ 16 * depth (plain expr.now)) }
     ensures exports { IfOk result (λ r. r.exports.items ≡ []) }
     ensures drawn { IfOk result (λ r. Draws (500 * weight (plain expr.now)) fresh.old fresh.new) }
+    ensures means { IfOk result (λ r. KeepsBody names.new (plain expr.now ∷ []) env.now r.exports.items (core.plain r.core)) }
 {
     let mut steps = Vec::new(alloc);
     let value = append(alloc, names, tables, expr, env, fresh, &mut steps)?;
@@ -67,13 +77,19 @@ pub fn body(
     requires built { AreBuilt names.old tables.now.functions.items (plain_all exprs.now) }
     requires narrow { AreNarrow (plain_all exprs.now) }
     requires of_table { TreesOf names.old (plain_all exprs.now) }
-    requires env_of_table { Each (BindOf names.old) env.now }
+    requires readable { Each (IsReadableBind names.old) env.now }
     requires no_faults { body_faults names.old (plain_all exprs.now) (bound_names env.now ∷ []) ≡ [] }
+    requires below { AreBelow fresh.old env.now }
     requires enough { fresh.old + 500 * all_weight (plain_all exprs.now) ≤ most_variables }
     ensures kept { Extends names.old names.new }
+    ensures differ { AllDiffer names.old → AllDiffer names.new }
+    ensures utf8 { AllUtf8 names.old → AllUtf8 names.new }
     ensures lowered { IfOk result (λ r. IsLowered names.new (core.plain r.core)) }
+    ensures in_scope { IfOk result (λ r. IsInScope names.old tables.now.functions.items env.now (core.plain r.core)) }
+    ensures shallow { IfOk result (λ r. deep.depth (core.plain r.core) ≤ 16 * all_depth (plain_all exprs.now)) }
     ensures exports { IfOk result (λ r. r.exports.items ≡ []) }
     ensures drawn { IfOk result (λ r. Draws (500 * all_weight (plain_all exprs.now)) fresh.old fresh.new) }
+    ensures means { IfOk result (λ r. KeepsBody names.new (map plain exprs.now) env.now r.exports.items (core.plain r.core)) }
 {
     let mut steps = Vec::new(alloc);
     let value = append_body(alloc, names, tables, exprs, env, fresh, &mut steps)?;
@@ -95,9 +111,11 @@ fn append_body(
 ) -> Result<CoreExpr, NoMemory>
     requires some { 1 ≤ length exprs.now }
     requires ready { AreReady names.now tables.now.functions.items env.now (plain_all exprs.now) }
-    requires env_of_table { Each (BindOf names.now) env.now }
+    requires readable { Each (IsReadableBind names.now) env.now }
+    requires below { AreBelow fresh.old env.now }
     requires enough { fresh.old + all_weight (plain_all exprs.now) ≤ most_variables }
-    ensures { IfOk result (λ v. Lowers names.now (all_weight (plain_all exprs.now)) fresh.old (map core.plain_step steps.old.items) fresh.new (map core.plain_step steps.new.items) (core.plain v)) }
+    ensures lowered { IfOk result (λ v. Lowers names.now tables.now.functions.items env.now (all_weight (plain_all exprs.now)) (all_depth (plain_all exprs.now)) fresh.old (map core.plain_step steps.old.items) fresh.new (map core.plain_step steps.new.items) (core.plain v)) }
+    ensures means { IfOk result (λ v. AppendsLast names.now (map plain exprs.now) fresh.old env.now (map core.plain_step steps.old.items) fresh.new env.now (map core.plain_step steps.new.items) (core.plain v)) }
 {
     let last = exprs.len() - 1;
     for expr in &exprs[..last] {

@@ -3,7 +3,7 @@ ghost use Rattle.std.specs.Prelude.{◌≡◌, ◌<◌, IfOk, map};
 ghost use Rattle.ef_base.specs.Texts.{Texts};
 ghost use Rattle.ef_core.specs.Fresh.{most_variables};
 ghost use Rattle.ef_core.specs.Plain.{plain, plain_step};
-ghost use Rattle.ef_lower.specs.Lowers.{Finishes, Holds, Puts};
+ghost use Rattle.ef_lower.specs.Lowers.{Finishes, Puts, StandsFor};
 
 use ef_base::NoMemory;
 use ef_core::{CoreExpr, CoreVar, Fresh, LetStep, is_simple};
@@ -37,7 +37,7 @@ pub fn hold(
     value: CoreExpr,
 ) -> Result<CoreExpr, NoMemory>
     requires { fresh.old < most_variables }
-    ensures { IfOk result (λ v. Holds (plain value) fresh.old (map plain_step steps.old.items) fresh.new (map plain_step steps.new.items) (plain v)) }
+    ensures { IfOk result (λ v. StandsFor (plain value) fresh.old (map plain_step steps.old.items) fresh.new (map plain_step steps.new.items) (plain v)) }
 {
     if is_simple(&value) {
         return Ok(value);

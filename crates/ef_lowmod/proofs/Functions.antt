@@ -1,17 +1,20 @@
 -- The parts of functions that can be lowered.
-use Rattle.std.proofs.Common.{◌≡◌, ◌≤◌, ◌<◌, ◌+◌, ◌*◌, ℕ, zero, suc, Bool, true, false, ◌||◌, ◌==◌, List, [], ◌∷◌, ◌++◌, length, get_or, take, refl, sym, ap, ◌∙◌, subst, arith, add-one}
+use Rattle.std.proofs.Common.{◌≡◌, ◌≤◌, ◌<◌, ◌+◌, ◌*◌, ◌^◌, ℕ, zero, suc, Bool, true, false, ◌||◌, ◌==◌, inl, inr, List, [], ◌∷◌, ◌++◌, length, get_or, take, refl, sym, ap, ◌∙◌, subst, arith, add-one}
 use Rattle.ef_base.specs.declared.name.Name.{Name}
 use Rattle.ef_base.specs.declared.fault.Place.{Place}
 use Rattle.ef_base.specs.Texts.{Texts}
-use Rattle.ef_core.specs.declared.tree.CoreVar.{CoreVar}
-use Rattle.ef_core.specs.declared.tree.CoreVar.TheVariants.{Numbered}
+use Rattle.ef_core.specs.declared.literal.CoreVar.{CoreVar}
+use Rattle.ef_core.specs.declared.literal.CoreVar.TheVariants.{Numbered}
 use Rattle.ef_core.specs.declared.env.Bind.{Bind}
 use Rattle.ef_core.specs.Fresh.{most_variables}
 use Rattle.ef_forms.specs.declared.expr.Expr.{Expr}
 use Rattle.ef_forms.specs.declared.expr.Clause.{Clause}
 use Rattle.ef_forms.specs.declared.tables.FunctionName.{FunctionName}
 use Rattle.ef_forms.specs.Tree.{Tree, Trees, Guards, Clauses, FunctionTree, tree, var, int, atom, call, remote, end, more, count, clause, no_clauses, no_guard, or_guard}
-use Rattle.ef_core.specs.OfTable.{Each}
+use Rattle.ef_core.specs.Conditions.{NoneTwice}
+use Rattle.ef_core.specs.Everywhere.{Each}
+use Rattle.ef_core.specs.Readable.{readable}
+use Rattle.ef_core.specs.Scope.{IsAmong}
 use Rattle.ef_forms.specs.Built.{AreBuilt, AreNarrow, AreNarrowClauses, AreVariables, IsBuiltClauses}
 use Rattle.ef_forms.specs.OfTable.{ClausesOf, TreesOf}
 use Rattle.ef_forms.specs.Plain.{plain, plain_all, plain_clauses, plain_guard}
@@ -19,6 +22,7 @@ use Rattle.ef_forms.specs.Ways.{no_names, names, all_names, body_faults, clauses
 use Rattle.ef_forms.specs.Weight.{all_weight, clauses_weight}
 use Rattle.ef_lower.proofs.Source.{some_weight}
 use Rattle.ef_lower.specs.Ready.{bound_names}
+use Rattle.ef_lower.specs.Scope.{HasVariables}
 use Rattle.ef_lowmod.specs.Function.{AreWhole, IsReadyFunction, IsVariable, variables_from}
 
 -- the first is a variable, and so are the others
@@ -91,7 +95,7 @@ only_clause all defined (d ∷ cs) c built read =
     subst (λ (z : Clause). plain_clauses (d ∷ cs) ≡ clause z.place (plain_all z.patterns.items) no_guard (plain_all z.body.items) no_clauses) (sym read)
     (λ i. clause d.place (plain_all d.patterns.items) (none.0 i) (plain_all d.body.items) (none.1 i))
 
-nothing_left : {A : Type 0} (xs ys : List A) → xs ++ ys ≡ [] → xs ≡ []
+pub nothing_left : {A : Type 0} (xs ys : List A) → xs ++ ys ≡ [] → xs ≡ []
 nothing_left [] ys none = refl
 nothing_left (x ∷ xs) ys none = absurd (cc)
 
@@ -105,6 +109,7 @@ pub record Parts (all : Texts) (defined : List FunctionName) (arity : ℕ) (ps b
   pub built : AreBuilt all defined body
   pub narrow : AreNarrow body
   pub number : count ps ≡ arity
+  pub few : count ps ≤ 255
   pub some : 1 ≤ count body
   pub of_table : TreesOf all body
   pub no_faults : body_faults all body (all_names ps ∷ []) ≡ []
@@ -123,6 +128,7 @@ parts_of all defined f p ps body is ready =
       built = built.1;
       narrow = narrow.3;
       number = whole.0;
+      few = narrow.0;
       some = whole.1;
       of_table = of_table.2;
       no_faults = nothing_left (body_faults all body (all_names ps ∷ [])) [] faults;
@@ -140,3 +146,42 @@ variables_push n (suc k) =
 pub one_more_variable : (vs new : List CoreVar) (v : CoreVar) (n k : ℕ) → new ≡ vs ++ v ∷ [] → vs ≡ variables_from n k → v ≡ Numbered (n + k) → new ≡ variables_from n (k + 1)
 one_more_variable vs new v n k pushed are is =
     pushed ∙ (λ i. are i ++ is i ∷ []) ∙ variables_push n k ∙ ap (variables_from n) (sym (add-one k))
+
+-- the numbers are in range
+pub numbered_readable : (texts : Texts) (n k : ℕ) → n + k ≤ 2 ^ 32 → Each (readable texts).variable (variables_from n k)
+numbered_readable texts n zero few = tt
+numbered_readable texts n (suc k) few = ((tt, (omega arith, tt)), numbered_readable texts (n + 1) k (omega arith))
+
+same_number : (n m : ℕ) → Numbered n ≡ Numbered m → n ≡ m
+same_number n m same = cc
+
+no_less : (n k m : ℕ) → IsAmong (variables_from n k) (Numbered m) → n ≤ m
+no_less n zero m is = absurd is
+no_less n (suc k) m (inl same) = let number = same_number m n same in omega arith
+no_less n (suc k) m (inr is) = let rest = no_less (n + 1) k m is in omega arith
+
+pub numbered_differ : (n k : ℕ) → NoneTwice (variables_from n k)
+numbered_differ n zero = tt
+numbered_differ n (suc k) = ((λ is. let rest = no_less (n + 1) k n is in omega arith), numbered_differ (n + 1) k)
+
+pub numbered_count : (n k : ℕ) → length (variables_from n k) ≡ k
+numbered_count n zero = refl
+numbered_count n (suc k) = let rest = numbered_count (n + 1) k in omega arith
+
+-- one more variable and its name
+among_longer : (vs us : List CoreVar) (v : CoreVar) → IsAmong vs v → IsAmong (vs ++ us) v
+among_longer [] us v is = absurd is
+among_longer (w ∷ vs) us v (inl same) = inl same
+among_longer (w ∷ vs) us v (inr is) = inr (among_longer vs us v is)
+
+has_longer : (env : List Bind) (vs us : List CoreVar) → HasVariables env vs → HasVariables env (vs ++ us)
+has_longer [] vs us has = tt
+has_longer (b ∷ env) vs us has = (among_longer vs us b.var has.0, has_longer env vs us has.1)
+
+among_last : (vs : List CoreVar) (v : CoreVar) → IsAmong (vs ++ v ∷ []) v
+among_last [] v = inl refl
+among_last (w ∷ vs) v = inr (among_last vs v)
+
+pub within_more : (env bs : List Bind) (b : Bind) (vs us : List CoreVar) → bs ≡ env ++ b ∷ [] → us ≡ vs ++ b.var ∷ [] → HasVariables env vs → HasVariables bs us
+within_more env bs b vs us bound drawn has =
+    subst (HasVariables bs) (sym drawn) (each_push (λ (a : Bind). IsAmong (vs ++ b.var ∷ []) a.var) env bs b bound (has_longer env vs (b.var ∷ []) has) (among_last vs b.var))

@@ -2,38 +2,39 @@
 use Rattle.std.proofs.Common.{List, [], ◌∷◌}
 use Rattle.ef_base.specs.Laws.{has_later}
 use Rattle.ef_base.specs.Texts.{Extends, Texts}
-use Rattle.ef_core.proofs.Later.{core_later, def_later}
+use Rattle.ef_core.proofs.Later.{def_later}
+use Rattle.ef_core.specs.declared.literal.FName.{FName}
 use Rattle.ef_core.specs.OfTable.{DefOf, Each}
-use Rattle.ef_core.specs.Tree.{CoreTree, DefTree}
+use Rattle.ef_core.specs.Tree.{DefTree}
 use Rattle.ef_forms.specs.OfTable.{ClausesOf, GuardsOf, ShapeOf, TreeOf, TreesOf}
 use Rattle.ef_forms.specs.Tree as s
 use Rattle.ef_forms.specs.Tree.{Clauses, FunctionTree, Guards, Shape, Tree, Trees}
-use Rattle.ef_lower.specs.Lowers.{IsLowered}
 use Rattle.ef_lowmod.specs.Function.{AreLowered, IsLoweredFunction}
+use Rattle.ef_lowmod.proofs.Lowered.{lowered_later}
 
 module _ (now all : Texts) (later : Extends now all) where
-  lowered_later : (e : CoreTree) → IsLowered now e → IsLowered all e
-  lowered_later e is = record { let_form = is.let_form; normal = is.normal; of_table = core_later now all later e is.of_table }
-
-  function_later : (f : FunctionTree) (d : DefTree) → IsLoweredFunction now f d → IsLoweredFunction all f d
-  function_later f d is = record {
+  function_later : (fs : List FName) (f : FunctionTree) (d : DefTree) → IsLoweredFunction now fs f d → IsLoweredFunction all fs f d
+  function_later fs f d is = record {
     name = is.name;
     parameters = is.parameters;
-    body = lowered_later d.body is.body;
+    matches = is.matches;
+    body = lowered_later now all later d.body is.body;
+    in_scope = is.in_scope;
+    shallow = is.shallow;
     of_table = def_later now all later d is.of_table;
   }
 
-  pub functions_later : (fs : List FunctionTree) (ds : List DefTree) → AreLowered now fs ds → AreLowered all fs ds
-  functions_later [] [] is = tt
-  functions_later [] (d ∷ ds) is = absurd is
-  functions_later (f ∷ fs) [] is = absurd is
-  functions_later (f ∷ fs) (d ∷ ds) is = (function_later f d is.0, functions_later fs ds is.1)
+  pub functions_later : (fs : List FName) (gs : List FunctionTree) (ds : List DefTree) → AreLowered now fs gs ds → AreLowered all fs gs ds
+  functions_later fs [] [] is = tt
+  functions_later fs [] (d ∷ ds) is = absurd is
+  functions_later fs (g ∷ gs) [] is = absurd is
+  functions_later fs (g ∷ gs) (d ∷ ds) is = (function_later fs g d is.0, functions_later fs gs ds is.1)
 
-pub each_def : (all : Texts) (fs : List FunctionTree) (ds : List DefTree) → AreLowered all fs ds → Each (DefOf all) ds
-each_def all [] [] is = tt
-each_def all [] (d ∷ ds) is = absurd is
-each_def all (f ∷ fs) [] is = absurd is
-each_def all (f ∷ fs) (d ∷ ds) is = (is.0.of_table, each_def all fs ds is.1)
+pub each_def : (all : Texts) (fs : List FName) (gs : List FunctionTree) (ds : List DefTree) → AreLowered all fs gs ds → Each (DefOf all) ds
+each_def all fs [] [] is = tt
+each_def all fs [] (d ∷ ds) is = absurd is
+each_def all fs (g ∷ gs) [] is = absurd is
+each_def all fs (g ∷ gs) (d ∷ ds) is = (is.0.of_table, each_def all fs gs ds is.1)
 
 -- ---- source trees
 

@@ -1,3 +1,6 @@
 pub mod Functions
+pub mod Lowered
 pub mod Later
 pub mod Modules
+pub mod Conditions
+pub mod Means

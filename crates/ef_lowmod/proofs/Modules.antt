@@ -7,7 +7,9 @@ use Rattle.ef_base.specs.declared.fault.Place.{Place}
 use Rattle.ef_base.specs.declared.name.Name.{Name}
 use Rattle.ef_base.specs.Laws.{has_later, named_later, same_name}
 use Rattle.ef_base.specs.Texts.{AllDiffer, Extends, HasName, IsNameOf, Texts, text}
-use Rattle.ef_core.specs.declared.module.CoreDef.{CoreDef}
+use Rattle.ef_core.specs.declared.literal.FName.{FName}
+use Rattle.ef_core.specs.declared.tree.CoreDef.{CoreDef}
+use Rattle.ef_core.specs.Conditions.{defined}
 use Rattle.ef_core.specs.OfTable as core
 use Rattle.ef_core.specs.OfTable.{AttributeOf, CoreModuleOf, DefOf, FNameOf}
 use Rattle.ef_core.specs.Plain.{plain_def}
@@ -58,7 +60,7 @@ form_at P (y ∷ forms) zero x all small read =
 form_at P (y ∷ forms) (suc i) x all small read =
     form_at P forms i x (each_right P (functions_in (plain_placed y ∷ [])) (functions_in (map plain_placed forms)) (subst (Each P) (split_forms (plain_placed y) (map plain_placed forms)) all)) (omega arith) read
 
-next_form : (forms : List PlacedForm) (i : ℕ) (x : PlacedForm) → i < length forms → x ≡ get_or forms i x → functions_in (map plain_placed (take (suc i) forms)) ≡ functions_in (map plain_placed (take i forms)) ++ functions_in (plain_placed x ∷ [])
+pub next_form : (forms : List PlacedForm) (i : ℕ) (x : PlacedForm) → i < length forms → x ≡ get_or forms i x → functions_in (map plain_placed (take (suc i) forms)) ≡ functions_in (map plain_placed (take i forms)) ++ functions_in (plain_placed x ∷ [])
 next_form [] i x small read = absurd (omega arith)
 next_form (y ∷ forms) zero x small read = ap (λ z. functions_in (plain_placed z ∷ [])) (sym read)
 next_form (y ∷ forms) (suc i) x small read =
@@ -67,18 +69,18 @@ next_form (y ∷ forms) (suc i) x small read =
     ∙ sym (append_assoc (functions_in (plain_placed y ∷ [])) (functions_in (map plain_placed (take i forms))) (functions_in (plain_placed x ∷ [])))
     ∙ ap (λ t. t ++ functions_in (plain_placed x ∷ [])) (sym (split_forms (plain_placed y) (map plain_placed (take i forms))))
 
-lowered_both : (all : Texts) (fs gs : List FunctionTree) (ds es : List DefTree) → AreLowered all fs ds → AreLowered all gs es → AreLowered all (fs ++ gs) (ds ++ es)
-lowered_both all [] gs [] es left right = right
-lowered_both all [] gs (d ∷ ds) es left right = absurd left
-lowered_both all (f ∷ fs) gs [] es left right = absurd left
-lowered_both all (f ∷ fs) gs (d ∷ ds) es left right = (left.0, lowered_both all fs gs ds es left.1 right)
+lowered_both : (all : Texts) (names : List FName) (fs gs : List FunctionTree) (ds es : List DefTree) → AreLowered all names fs ds → AreLowered all names gs es → AreLowered all names (fs ++ gs) (ds ++ es)
+lowered_both all names [] gs [] es left right = right
+lowered_both all names [] gs (d ∷ ds) es left right = absurd left
+lowered_both all names (f ∷ fs) gs [] es left right = absurd left
+lowered_both all names (f ∷ fs) gs (d ∷ ds) es left right = (left.0, lowered_both all names fs gs ds es left.1 right)
 
 -- one more form
-pub form_lowered : (now all : Texts) (forms : List PlacedForm) (i : ℕ) (x : PlacedForm) (ds new : List DefTree) → Extends now all → AreLowered now (functions_in (map plain_placed (take i forms))) ds → i < length forms → x ≡ get_or forms i x → IsLoweredForm all (plain_placed x) ds new → AreLowered all (functions_in (map plain_placed (take (i + 1) forms))) new
-form_lowered now all forms i x ds new later before small read one =
-    subst (AreLowered all (functions_in (map plain_placed (take (i + 1) forms)))) (sym one.is)
-    (subst (λ fs. AreLowered all fs (ds ++ one.added)) (sym (ap (λ n. functions_in (map plain_placed (take n forms))) (add-one i) ∙ next_form forms i x small read))
-    (lowered_both all (functions_in (map plain_placed (take i forms))) (functions_in (plain_placed x ∷ [])) ds one.added (functions_later now all later (functions_in (map plain_placed (take i forms))) ds before) one.lowered))
+pub form_lowered : (now all : Texts) (names : List FName) (forms : List PlacedForm) (i : ℕ) (x : PlacedForm) (ds new : List DefTree) → Extends now all → AreLowered now names (functions_in (map plain_placed (take i forms))) ds → i < length forms → x ≡ get_or forms i x → IsLoweredForm all names (plain_placed x) ds new → AreLowered all names (functions_in (map plain_placed (take (i + 1) forms))) new
+form_lowered now all names forms i x ds new later before small read one =
+    subst (AreLowered all names (functions_in (map plain_placed (take (i + 1) forms)))) (sym one.is)
+    (subst (λ fs. AreLowered all names fs (ds ++ one.added)) (sym (ap (λ n. functions_in (map plain_placed (take n forms))) (add-one i) ∙ next_form forms i x small read))
+    (lowered_both all names (functions_in (map plain_placed (take i forms))) (functions_in (plain_placed x ∷ [])) ds one.added (functions_later now all later names (functions_in (map plain_placed (take i forms))) ds before) one.lowered))
 
 -- ---- functions that can be lowered
 
@@ -187,6 +189,6 @@ outline_named all m t outline named exported =
       subst (core.Each (FNameOf all)) (sym outline.exports) (exported_named all (is_other all) (exports_in m.forms) outline.fixed.module_info exported info),
       subst (core.Each (AttributeOf all)) (sym outline.attributes) tt,
       subst (core.Each (DefOf all)) (sym outline.defs)
-          (defs_named all outline.functions (info_def outline.fixed m.name ∷ item_def outline.fixed m.name ∷ []) (each_def all (functions_in m.forms) outline.functions outline.in_order)
-          ((info, tt, (erlang, get, (named, tt))), ((info, (tt, tt), (erlang, get, (named, (tt, tt)))), tt))),
+          (defs_named all outline.functions (info_def outline.fixed m.name ∷ item_def outline.fixed m.name ∷ []) (each_def all (defined all t) (functions_in m.forms) outline.functions outline.in_order)
+          ((info, (tt, (tt, (tt, erlang), (tt, get), ((tt, named), tt)))), ((info, ((tt, tt), (tt, (tt, erlang), (tt, get), ((tt, named), ((tt, tt), tt))))), tt))),
     )

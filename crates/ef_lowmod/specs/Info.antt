@@ -2,8 +2,8 @@
 use Rattle.std.specs.Prelude.{ℕ, codes, [], ◌∷◌}
 use Rattle.ef_base.specs.declared.name.Name.{Name}
 use Rattle.ef_base.specs.Texts.{Texts, IsNameOf}
-use Rattle.ef_core.specs.declared.tree.CoreVar.TheVariants.{Numbered}
-use Rattle.ef_core.specs.declared.tree.FName.{FName}
+use Rattle.ef_core.specs.declared.literal.CoreVar.TheVariants.{Numbered}
+use Rattle.ef_core.specs.declared.literal.FName.{FName}
 use Rattle.ef_core.specs.Tree.{DefTree, atom, var, lit, call, end, more}
 use Rattle.ef_lowmod.specs.declared.info.Fixed.{Fixed}
 

@@ -1,6 +1,7 @@
 -- The outline of a lowered module.
 use Rattle.std.specs.Prelude.{◌≡◌, Bool, not, ◌&&◌, nat_le, bytes_eq, codes, List, [], ◌∷◌, ◌++◌, map, filter}
 use Rattle.ef_base.specs.Texts.{Texts, text}
+use Rattle.ef_core.specs.Conditions.{defined}
 use Rattle.ef_core.specs.Tree.{DefTree, CoreModuleTree}
 use Rattle.ef_forms.specs.declared.tables.FunctionName.{FunctionName}
 use Rattle.ef_forms.specs.Tree.{ModuleTree}
@@ -22,4 +23,4 @@ pub record Outline (all : Texts) (m : ModuleTree) (t : CoreModuleTree) : Type 0 
   pub attributes : t.attributes ≡ []
   pub functions : List DefTree
   pub defs : t.defs ≡ functions ++ (info_def fixed m.name ∷ item_def fixed m.name ∷ [])
-  pub in_order : AreLowered all (functions_in m.forms) functions
+  pub in_order : AreLowered all (defined all t) (functions_in m.forms) functions

@@ -1,9 +1,9 @@
 // The names that every module has, and `module_info/0` and `/1`.
 ghost use Rattle.std.specs.Prelude.{◌≡◌, [], ◌∷◌, ◌++◌, IfOk, codes, map};
-ghost use Rattle.ef_base.specs.Texts.{AllDiffer, Extends, IsNameOf, Texts};
+ghost use Rattle.ef_base.specs.Texts.{AllDiffer, AllUtf8, Extends, IsNameOf, Texts};
 ghost use Rattle.ef_core.specs.Plain.{plain, plain_all, plain_def};
 ghost use Rattle.ef_core.specs.Tree as c;
-ghost use Rattle.ef_core.specs.declared.tree.CoreVar.TheVariants.{Numbered};
+ghost use Rattle.ef_core.specs.declared.literal.CoreVar.TheVariants.{Numbered};
 ghost use Rattle.ef_lowmod.specs.Info.{AreFixed, info_def, item_def};
 
 use ef_base::{Name, Names, NoMemory};
@@ -23,6 +23,7 @@ pub fn fixed_names(names: &mut Names) -> Result<Fixed, NoMemory>
     ensures kept { Extends names.old names.new }
     ensures fixed { IfOk result (λ f. (all : Texts) → Extends names.new all → AreFixed all f) }
     ensures differ { IfOk result (λ f. AllDiffer names.new) }
+    ensures utf8 { IfOk result (λ f. AllUtf8 names.new) }
 {
     let module_info = names.intern("module_info")?;
     let erlang = names.intern("erlang")?;

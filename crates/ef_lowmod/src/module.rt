@@ -1,14 +1,19 @@
 // Modules.
-ghost use Rattle.std.specs.Prelude.{◌≡◌, [], ◌∷◌, IfOk, OnOk, map};
-ghost use Rattle.ef_base.specs.Texts.{Extends, Texts};
+ghost use Rattle.std.specs.Prelude.{◌≡◌, [], ◌∷◌, IfOk, List, OnOk, map};
+ghost use Rattle.ef_base.specs.Texts.{AllDiffer, AllUtf8, Extends, Texts};
+ghost use Rattle.ef_core.specs.declared.literal.FName.{FName};
 ghost use Rattle.ef_core.specs.OfTable.{CoreModuleOf};
 ghost use Rattle.ef_core.specs.Plain.{plain_def};
 ghost use Rattle.ef_core.specs.Plain as core;
+ghost use Rattle.ef_core.specs.Readable.{IsReadable};
 ghost use Rattle.ef_forms.specs.Built.{Each, IsBuilt, defined_in, exports_in, functions_in};
 ghost use Rattle.ef_forms.specs.OfTable.{ModuleOf};
 ghost use Rattle.ef_forms.specs.Plain.{plain_module, plain_placed};
-ghost use Rattle.ef_lowmod.specs.Function.{AreLowered, HasNoFault, IsLight, IsNarrowFunction, IsLoweredForm, IsReadyFunction, IsWhole};
+ghost use Rattle.ef_lower.specs.Scope.{HasFunctions};
+ghost use Rattle.ef_lowmod.specs.Function.{AreLowered, HasNoFault, IsLight, IsNarrowFunction, IsLoweredForm, IsReadyFunction, IsWhole, KeepsForm};
 ghost use Rattle.ef_lowmod.specs.Outline.{Outline};
+ghost use Rattle.ef_meaning.specs.Lowers.{KeepDefinitions};
+ghost use Rattle.ef_meaning.specs.Runs.{KeepsMeaning};
 
 use crate::exports::exports;
 use crate::function::lower_function;
@@ -36,6 +41,9 @@ pub fn lower(
     ensures kept { Extends names.old names.new }
     ensures outlined { IfOk result (λ m. (all : Texts) → Extends names.new all → Outline all (plain_module «module».now) (core.plain_module m)) }
     ensures of_table { IfOk result (λ m. (all : Texts) → Extends names.new all → CoreModuleOf all (core.plain_module m)) }
+    ensures readable { IfOk result (λ m. (all : Texts) → Extends names.new all → IsReadable all (core.plain_module m)) }
+    ensures utf8 { OnOk result (AllUtf8 names.new) }
+    ensures means { IfOk result (λ m. (all : Texts) → Extends names.new all → KeepsMeaning all (plain_module «module».now) (core.plain_module m)) }
 {
     let fixed = fixed_names(names)?;
     let exports = exports(alloc, fixed, &tables.exports)?;
@@ -59,7 +67,10 @@ fn lower_functions(
 ) -> Result<Vec<CoreDef>, NoMemory>
     requires { (all : Texts) → Extends names.old all → Each (IsReadyFunction all tables.now.functions.items) (functions_in (map plain_placed forms.now)) }
     ensures kept { Extends names.old names.new }
-    ensures lowered { IfOk result (λ ds. AreLowered names.new (functions_in (map plain_placed forms.now)) (map plain_def ds.items)) }
+    ensures differ { AllDiffer names.old → AllDiffer names.new }
+    ensures utf8 { AllUtf8 names.old → AllUtf8 names.new }
+    ensures lowered { IfOk result (λ ds. (fs : List FName) → HasFunctions names.new tables.now.functions.items fs → AreLowered names.new fs (functions_in (map plain_placed forms.now)) (map plain_def ds.items)) }
+    ensures means { IfOk result (λ ds. KeepDefinitions names.new (functions_in (map plain_placed forms.now)) (map plain_def ds.items)) }
 {
     let mut defs = Vec::new(alloc);
     for placed in forms {
@@ -78,7 +89,10 @@ fn lower_form(
 ) -> Result<(), NoMemory>
     requires { Each (IsReadyFunction names.old tables.now.functions.items) (functions_in (plain_placed placed.now ∷ [])) }
     ensures kept { Extends names.old names.new }
-    ensures lowered { OnOk result (IsLoweredForm names.new (plain_placed placed.now) (map plain_def defs.old.items) (map plain_def defs.new.items)) }
+    ensures differ { AllDiffer names.old → AllDiffer names.new }
+    ensures utf8 { AllUtf8 names.old → AllUtf8 names.new }
+    ensures lowered { OnOk result ((fs : List FName) → HasFunctions names.old tables.now.functions.items fs → IsLoweredForm names.new fs (plain_placed placed.now) (map plain_def defs.old.items) (map plain_def defs.new.items)) }
+    ensures means { OnOk result (KeepsForm names.new (plain_placed placed.now) (map plain_def defs.old.items) (map plain_def defs.new.items)) }
 {
     if let Form::FunctionOf(function) = &placed.form {
         defs.push(lower_function(alloc, names, tables, function)?)?;

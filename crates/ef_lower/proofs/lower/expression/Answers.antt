@@ -3,7 +3,8 @@ use Rattle.ef_core.specs.Plain as core
 use Rattle.ef_forms.specs.Plain.{plain}
 use Rattle.ef_lower.specs.Ready.{bound_names}
 use Rattle.ef_lower.proofs.Covers.{covered}
-use Rattle.ef_lower.proofs.Parts.{finish_lowered}
+use Rattle.ef_lower.proofs.Means.{finish_keeps, one_appends}
+use Rattle.ef_lower.proofs.Parts.{finish_in_scope, finish_lowered, finish_shallow}
 use Rattle.ef_lower.proofs.lower.expression.Goals as goal
 
 pub append-requires-clause-ready : goal.append-requires-clause-ready
@@ -16,4 +17,15 @@ append-requires-clause-ready c = record {
 
 pub returns-clause-lowered : goal.returns-clause-lowered
 returns-clause-lowered c =
-    finish_lowered _ _ _ _ _ _ _ _ c.in_ok-value.ensures (ap (map core.plain_step) c.new-steps.ensures.items) c.in_ok-finish.ensures
+    finish_lowered _ _ _ _ _ _ _ _ _ _ _ c.in_ok-value.ensures.lowered (ap (map core.plain_step) c.new-steps.ensures.items) c.in_ok-finish.ensures
+
+pub returns-clause-in_scope : goal.returns-clause-in_scope
+returns-clause-in_scope c =
+    finish_in_scope _ _ _ _ _ _ _ _ _ _ _ c.in_ok-value.ensures.lowered (ap (map core.plain_step) c.new-steps.ensures.items) c.in_ok-finish.ensures
+
+pub returns-clause-shallow : goal.returns-clause-shallow
+returns-clause-shallow c =
+    finish_shallow _ _ _ _ _ _ _ _ _ _ _ c.in_ok-value.ensures.lowered (ap (map core.plain_step) c.new-steps.ensures.items) c.in_ok-finish.ensures
+
+pub returns-clause-means : goal.returns-clause-means
+returns-clause-means c = finish_keeps _ _ _ _ _ _ _ _ _ _ (one_appends _ _ _ _ _ _ _ _ c.requires.below c.in_ok-value.ensures.means) (ap (map core.plain_step) c.new-steps.ensures.items) c.new.ensures.items c.in_ok-finish.ensures

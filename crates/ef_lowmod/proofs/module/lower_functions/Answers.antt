@@ -1,17 +1,30 @@
 use Rattle.ef_base.specs.Laws.{extends_later}
 use Rattle.ef_lowmod.specs.Function.{IsReadyFunction}
+use Rattle.ef_lowmod.proofs.Lowered.{has_earlier}
 use Rattle.ef_lowmod.proofs.Modules.{form_at, form_lowered}
+use Rattle.ef_lowmod.proofs.Means.{form_keeps}
 use Rattle.ef_lowmod.proofs.module.lower_functions.Goals as goal
 
 pub lower_form-requires : goal.lower_form-requires
 lower_form-requires c =
-    form_at (IsReadyFunction c.loop-placed.names c.args.tables.now.functions.items) c.args.forms.now _ _ (c.requires c.loop-placed.names c.loop-placed.invariant.0) c.loop-placed-test.true c.placed-item.is
+    form_at (IsReadyFunction c.loop-placed.names c.args.tables.now.functions.items) c.args.forms.now _ _ (c.requires c.loop-placed.names c.loop-placed.invariant.kept) c.loop-placed-test.true c.placed-item.is
 
 pub returns-in_err-lower_form-clause-kept : goal.returns-in_err-lower_form-clause-kept
-returns-in_err-lower_form-clause-kept c = extends_later c.loop-placed.invariant.0 c.in_err-lower_form.ensures.kept
+returns-in_err-lower_form-clause-kept c = extends_later c.loop-placed.invariant.kept c.in_err-lower_form.ensures.kept
+
+pub returns-in_err-lower_form-clause-differ : goal.returns-in_err-lower_form-clause-differ
+returns-in_err-lower_form-clause-differ c = λ given. c.in_err-lower_form.ensures.differ (c.loop-placed.invariant.differ given)
 
 pub loop-placed-preserved : goal.loop-placed-preserved
-loop-placed-preserved c = (
-  extends_later c.loop-placed.invariant.0 c.in_ok-lower_form.ensures.kept,
-  form_lowered _ _ c.args.forms.now _ _ _ _ c.in_ok-lower_form.ensures.kept c.loop-placed.invariant.1 c.loop-placed-test.true c.placed-item.is c.in_ok-lower_form.ensures.lowered,
-)
+loop-placed-preserved c =
+    let before = c.loop-placed.invariant in
+    let one = c.in_ok-lower_form.ensures in
+    record {
+      kept = extends_later before.kept one.kept;
+      differ = λ given. one.differ (before.differ given);
+      utf8 = λ given. one.utf8 (before.utf8 given);
+      lowered = λ fs functions.
+          let had = has_earlier _ _ one.kept _ fs functions in
+          form_lowered _ _ fs c.args.forms.now _ _ _ _ one.kept (before.lowered fs had) c.loop-placed-test.true c.placed-item.is (one.lowered fs had);
+      means = form_keeps _ _ c.args.forms.now _ _ _ _ one.kept before.means c.loop-placed-test.true c.placed-item.is one.means;
+    }

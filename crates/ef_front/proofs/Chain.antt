@@ -40,6 +40,7 @@ use Rattle.ef_front.specs.Source.{IsSource, IsBlank, HasFaults, IsTextFor, blank
 use Rattle.ef_front.specs.Input.{limit}
 use Rattle.ef_front.specs.Runs.{IsCompiledText}
 use Rattle.ef_front.specs.Compiles.{HasFaulty, AreTaken, SpellLight, IsLoweredTo, IsFaulty, IsCompiledModule, IsCompiledForms}
+use Rattle.ef_front.proofs.Nested.{each_joined, written}
 use Rattle.ef_front.proofs.Sizes.{AreLight, light}
 use Rattle.ef_front.proofs.OneSource.{other_source}
 
@@ -59,23 +60,19 @@ form_whole all f ts (a_module_name m n p q r s t u at) = tt
 form_whole all f ts (an_export m fs p q r s t u v ts' at h) = tt
 form_whole all f ts (a_function n cs d p ts' (one_clause n' ps es d' g q r s t xs ys h hs) le) = ((refl, not_none es g ys hs, tt), tt)
 
-each_both : {A : Type 0} (P : A → Type 0) (xs ys : List A) → Each P xs → Each P ys → Each P (xs ++ ys)
-each_both P [] ys first second = second
-each_both P (x ∷ xs) ys first second = (first.0, each_both P xs ys first.1 second)
-
 forms_narrow : (all : Texts) (fs : List PlacedTree) (tss : List (List Token)) → SpellsForms all fs tss → Each IsNarrowFunction (functions_in fs)
 forms_narrow all [] [] spelled = tt
 forms_narrow all [] (ts ∷ tss) spelled = absurd spelled
 forms_narrow all (f ∷ fs) [] spelled = absurd spelled
 forms_narrow all (f ∷ fs) (ts ∷ tss) spelled =
-    each_both IsNarrowFunction (functions_of f.form) (functions_in fs) (form_narrow all f.form ts spelled.1 spelled.2) (forms_narrow all fs tss spelled.3)
+    each_joined IsNarrowFunction (functions_of f.form) (functions_in fs) (form_narrow all f.form ts spelled.1 spelled.2) (forms_narrow all fs tss spelled.3)
 
 forms_whole : (all : Texts) (fs : List PlacedTree) (tss : List (List Token)) → SpellsForms all fs tss → Each IsWhole (functions_in fs)
 forms_whole all [] [] spelled = tt
 forms_whole all [] (ts ∷ tss) spelled = absurd spelled
 forms_whole all (f ∷ fs) [] spelled = absurd spelled
 forms_whole all (f ∷ fs) (ts ∷ tss) spelled =
-    each_both IsWhole (functions_of f.form) (functions_in fs) (form_whole all f.form ts spelled.1) (forms_whole all fs tss spelled.3)
+    each_joined IsWhole (functions_of f.form) (functions_in fs) (form_whole all f.form ts spelled.1) (forms_whole all fs tss spelled.3)
 
 pub module_narrow : (all : Texts) (m : ModuleTree) (forms : List (List Token)) → SpellsModule all m forms → Each IsNarrowFunction (functions_in m.forms)
 module_narrow all m forms spelled = forms_narrow all m.forms forms spelled.spelled
@@ -252,7 +249,7 @@ pub text_compiled : (names : Texts) (source : List ℕ) (forms : List (List Toke
 text_compiled names source forms (Module l) differ dark scanned is =
     let origin : IsSource names source is.0 = record { differ = differ; forms = forms; scanned = scanned; spelled = is.1; built = is.2.built } in (
       of_module names is.0 origin is.2.are,
-      record { all = names; module_tree = is.0; spelled = origin; later = l.names; extends = is.3.extends; written = record { core = _; outline = is.3.outline; is = refl } },
+      record { all = names; module_tree = is.0; spelled = origin; later = l.names; extends = is.3.extends; written = written names is.0 forms l is.1 is.3 },
       is.3.writable,
     )
 text_compiled names source forms (Faulty faults) differ dark scanned is = (by_case is.1, is.0)

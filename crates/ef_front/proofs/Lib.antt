@@ -3,6 +3,7 @@ pub mod Chain
 pub mod Created
 pub mod Found
 pub mod Headline
+pub mod Nested
 pub mod OfNames
 pub mod OneList
 pub mod OneModule

@@ -2,7 +2,7 @@
 use Rattle.std.specs.Prelude.{ℕ, List, [], ◌∷◌, ◌++◌, ◌≡◌, ◌≢◌, ◌⊎◌, Bool, true, false}
 use Rattle.ef_base.specs.declared.fault.Fault.{Fault}
 use Rattle.ef_base.specs.Faults.{set_of}
-use Rattle.ef_base.specs.Texts.{Texts, Extends}
+use Rattle.ef_base.specs.Texts.{Texts, AllUtf8, Extends}
 use Rattle.ef_token.specs.declared.token.Token.{Token}
 use Rattle.ef_token.specs.declared.token.ScannedForm.{ScannedForm}
 use Rattle.ef_token.specs.declared.token.ScannedForm.TheVariants.{Tokens, Faulty as faulty_form}
@@ -11,8 +11,10 @@ use Rattle.ef_forms.specs.Tree.{ModuleTree}
 use Rattle.ef_forms.specs.Built.{Each, IsBuilt, functions_in}
 use Rattle.ef_module.specs.Forms.{SpellsModule}
 use Rattle.ef_core.specs.Plain.{plain_module}
+use Rattle.ef_core.specs.Readable.{IsReadable}
 use Rattle.ef_lowmod.specs.Function.{IsLight}
 use Rattle.ef_lowmod.specs.Outline.{Outline}
+use Rattle.ef_meaning.specs.Runs.{KeepsMeaning}
 use Rattle.ef_front.specs.declared.compiling.Lowered.{Lowered}
 use Rattle.ef_front.specs.declared.compiling.Compiled.{Compiled}
 use Rattle.ef_front.specs.declared.compiling.Compiled.TheVariants.{Module, Faulty}
@@ -34,10 +36,14 @@ AreTaken scanned false forms = AreOf scanned forms
 abbrev pub SpellLight : List (List Token) → Type 0
 SpellLight forms = (all : Texts) (m : ModuleTree) → SpellsModule all m forms → Each IsLight (functions_in m.forms)
 
--- the Core module has the outline of the module, and can be written
+-- the Core module has the outline of the module, can be written, is one that a text says, and keeps the meaning of the
+-- module
 pub record IsLoweredTo (names : Texts) (m : ModuleTree) (l : Lowered) : Type 0 where
   pub extends : Extends names l.names
+  pub utf8 : AllUtf8 l.names
   pub outline : Outline l.names m (plain_module l.«module»)
+  pub readable : IsReadable l.names (plain_module l.«module»)
+  pub means : KeepsMeaning l.names m (plain_module l.«module»)
   pub writable : IsWritable l
 
 -- the one fault of what is not built

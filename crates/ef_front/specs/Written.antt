@@ -1,13 +1,18 @@
--- The text of a module.
+-- What is written for a module.
 use Rattle.std.specs.Prelude.{ℕ, List, ◌≡◌}
 use Rattle.ef_base.specs.Texts.{Texts}
 use Rattle.ef_forms.specs.Tree.{ModuleTree}
 use Rattle.ef_core.specs.Tree.{CoreModuleTree}
 use Rattle.ef_core.specs.Layout.{text_of}
+use Rattle.ef_core.specs.Reads.{Reads}
 use Rattle.ef_lowmod.specs.Outline.{Outline}
+use Rattle.ef_meaning.specs.Runs.{KeepsMeaning}
 
--- the text of a Core module that has the outline of the module, and whose functions are in let form
+-- the bytes are read as a Core module that has the outline of the module, whose functions are in let form, and that keeps
+-- the meaning of the module on every run; they are its printed text
 pub record IsWritten (all : Texts) (m : ModuleTree) (text : List ℕ) : Type 0 where
   pub core : CoreModuleTree
+  pub read : Reads all text core
   pub outline : Outline all m core
+  pub means : KeepsMeaning all m core
   pub is : text ≡ text_of all core

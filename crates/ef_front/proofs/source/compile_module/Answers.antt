@@ -27,7 +27,10 @@ returns c =
       },
       record {
         extends = c.in_ok-module.ensures.kept;
+        utf8 = c.in_ok-module.ensures.utf8;
         outline = c.in_ok-module.ensures.outlined c.lower.new.names later;
+        readable = c.in_ok-module.ensures.readable c.lower.new.names later;
+        means = c.in_ok-module.ensures.means c.lower.new.names later;
         writable = (c.in_ok-module.ensures.of_table c.lower.new.names later, c.in_ok-buffer.ensures.items);
       },
     )

@@ -1,0 +1,71 @@
+-- A written module is no deeper than a text may be.
+use Rattle.std.specs.Prelude.{ℕ, max, ◌*◌, ◌≤◌, ◌≡◌, List, [], ◌∷◌, ◌++◌, refl}
+use Rattle.std.proofs.Common.{arith, ap, sym, subst}
+use Rattle.ef_base.specs.Texts.{Texts}
+use Rattle.ef_token.specs.declared.token.Token.{Token}
+use Rattle.ef_forms.specs.Built.{Each, functions_in, functions_of}
+use Rattle.ef_forms.specs.Depth.{function_depth}
+use Rattle.ef_forms.specs.Tree.{FormTree, FunctionTree, PlacedTree, ModuleTree}
+use Rattle.ef_parse.proofs.Depths.{clauses_nest}
+use Rattle.ef_module.specs.Forms.{SpellsForm, SpellsForms, SpellsModule, a_module_name, an_export, a_function, most_nesting}
+use Rattle.ef_core.specs.declared.literal.FName.{FName}
+use Rattle.ef_core.specs.Conditions.{defined}
+use Rattle.ef_core.specs.Depth.{depth, functions_depth, module_depth, terms_depth}
+use Rattle.ef_core.specs.Layout.{text_of}
+use Rattle.ef_core.specs.Plain.{plain_module}
+use Rattle.ef_core.specs.Reads.{greatest_depth}
+use Rattle.ef_core.specs.Tree.{DefTree, CoreModuleTree}
+use Rattle.ef_core.proofs.Law.{reads}
+use Rattle.ef_lowmod.specs.Function.{AreLowered}
+use Rattle.ef_lowmod.specs.Outline.{Outline}
+use Rattle.ef_front.specs.declared.compiling.Lowered.{Lowered}
+use Rattle.ef_front.specs.Compiles.{IsLoweredTo}
+use Rattle.ef_front.specs.Written.{IsWritten}
+
+abbrev pub IsNested : FunctionTree → Type 0
+IsNested f = function_depth f ≤ most_nesting
+
+form_nested : (all : Texts) (f : FormTree) (ts : List Token) → SpellsForm all f ts → Each IsNested (functions_of f)
+form_nested all f ts (a_module_name m n p q r s t u at) = tt
+form_nested all f ts (an_export m fs p q r s t u v ts' at h) = tt
+form_nested all f ts (a_function n cs d p ts' h le) = let within = clauses_nest n cs d ts' h in (omega arith, tt)
+
+pub each_joined : {A : Type 0} (P : A → Type 0) (xs ys : List A) → Each P xs → Each P ys → Each P (xs ++ ys)
+each_joined P [] ys first second = second
+each_joined P (x ∷ xs) ys first second = (first.0, each_joined P xs ys first.1 second)
+
+forms_nested : (all : Texts) (fs : List PlacedTree) (tss : List (List Token)) → SpellsForms all fs tss → Each IsNested (functions_in fs)
+forms_nested all [] [] spelled = tt
+forms_nested all [] (ts ∷ tss) spelled = absurd spelled
+forms_nested all (f ∷ fs) [] spelled = absurd spelled
+forms_nested all (f ∷ fs) (ts ∷ tss) spelled =
+    each_joined IsNested (functions_of f.form) (functions_in fs) (form_nested all f.form ts spelled.1) (forms_nested all fs tss spelled.3)
+
+pub module_nested : (all : Texts) (m : ModuleTree) (forms : List (List Token)) → SpellsModule all m forms → Each IsNested (functions_in m.forms)
+module_nested all m forms spelled = forms_nested all m.forms forms spelled.spelled
+
+-- ---- what is lowered
+
+functions_shallow : (all : Texts) (fs : List FName) (gs : List FunctionTree) (ds behind : List DefTree) → AreLowered all fs gs ds → Each IsNested gs → functions_depth behind ≤ greatest_depth
+    → functions_depth (ds ++ behind) ≤ greatest_depth
+functions_shallow all fs [] [] behind lowered nested last = last
+functions_shallow all fs [] (d ∷ ds) behind lowered nested last = absurd lowered
+functions_shallow all fs (g ∷ gs) [] behind lowered nested last = absurd lowered
+functions_shallow all fs (g ∷ gs) (d ∷ ds) behind lowered nested last =
+    let here : depth d.body ≤ 16 * function_depth g = lowered.0.shallow in
+    let within : function_depth g ≤ 128 = nested.0 in
+    let others : functions_depth (ds ++ behind) ≤ 2048 = functions_shallow all fs gs ds behind lowered.1 nested.1 last in
+    omega arith
+
+outline_shallow : (all : Texts) (m : ModuleTree) (t : CoreModuleTree) → Outline all m t → Each IsNested (functions_in m.forms) → module_depth t ≤ greatest_depth
+outline_shallow all m t is nested =
+    let defs : functions_depth t.defs ≤ 2048 =
+    subst (λ ds. functions_depth ds ≤ 2048) (sym is.defs) (functions_shallow all (defined all t) (functions_in m.forms) is.functions _ is.in_order nested (omega arith)) in
+    let terms : terms_depth t.attributes ≡ 0 = ap terms_depth is.attributes in
+    omega arith
+
+-- what is lowered from forms that spell a module is read back
+pub written : (names : Texts) (m : ModuleTree) (forms : List (List Token)) (l : Lowered) → SpellsModule names m forms → IsLoweredTo names m l → IsWritten l.names m (text_of l.names (plain_module l.«module»))
+written names m forms l spelled is =
+    let deep = outline_shallow l.names m (plain_module l.«module») is.outline (module_nested names m forms spelled) in
+    record { core = plain_module l.«module»; read = reads l.names (plain_module l.«module») is.utf8 is.readable deep; outline = is.outline; means = is.means; is = refl }

@@ -82,6 +82,40 @@ apply 'k'/1(_1)
 end
 ",
     ),
+    (
+        "-module(a).\n-export([f/1]).\nf(X) -> g:h(X), X.\n",
+        "module 'a' ['f'/1, 'module_info'/0, 'module_info'/1]
+attributes []
+'f'/1 = fun (_0) -> let _1 = call 'g':'h'(_0) in
+_0
+'module_info'/0 = fun () -> call 'erlang':'get_module_info'('a')
+'module_info'/1 = fun (_0) -> call 'erlang':'get_module_info'('a', _0)
+end
+",
+    ),
+    (
+        "-module(a).\n-export([f/1]).\nf(X) -> f(X).\n",
+        "module 'a' ['f'/1, 'module_info'/0, 'module_info'/1]
+attributes []
+'f'/1 = fun (_0) -> apply 'f'/1(_0)
+'module_info'/0 = fun () -> call 'erlang':'get_module_info'('a')
+'module_info'/1 = fun (_0) -> call 'erlang':'get_module_info'('a', _0)
+end
+",
+    ),
+    (
+        "-module(a).\n-export([f/1]).\nf(X) -> g:h(X, i:j(), k()).\nk() -> l:m().\n",
+        "module 'a' ['f'/1, 'module_info'/0, 'module_info'/1]
+attributes []
+'f'/1 = fun (_0) -> let _1 = call 'i':'j'() in
+let _2 = apply 'k'/0() in
+call 'g':'h'(_0, _1, _2)
+'k'/0 = fun () -> call 'l':'m'()
+'module_info'/0 = fun () -> call 'erlang':'get_module_info'('a')
+'module_info'/1 = fun (_0) -> call 'erlang':'get_module_info'('a', _0)
+end
+",
+    ),
 ];
 
 #[test]

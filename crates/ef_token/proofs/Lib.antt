@@ -1,0 +1,16 @@
+pub mod Hex
+pub mod Putting
+pub mod Names
+pub mod Spellings
+pub mod Quoting
+pub mod Numerals
+pub mod Lexemes
+pub mod Faults
+pub mod Parting
+pub mod Standing
+pub mod Integers
+pub mod Plain
+pub mod Escaped
+pub mod Spelled
+pub mod OneScan
+pub mod ReadBack

@@ -1,3 +1,11 @@
+pub mod Letters
+pub mod Numerals
 pub mod Words
 pub mod Lexeme
+pub mod ScanFaults
+pub mod Sorts
+pub mod Parts
 pub mod TokenForm
+pub mod Spelling
+pub mod Scans
+pub mod ReadsBack

@@ -3,7 +3,7 @@ use Rattle.std.proofs.Common.{ℕ, ◌≤◌, ◌≡◌, List, [], ◌∷◌, �
 use Rattle.std.specs.Prelude.{Option, Some, None, IfSome}
 use Rattle.ef_token.specs.declared.word.Sym.{Sym}
 use Rattle.ef_token.specs.Words.{sym_text}
-use Rattle.ef_scan.specs.Pieces.{Fits}
+use Rattle.ef_scan.specs.Symbols.{Fits}
 
 begins_one : (text : List ℕ) → 1 ≤ length text → text ≡ (get_or text 0 0 ∷ []) ++ drop 1 text
 begins_one [] l = absurd (omega arith)

@@ -1,3 +1,10 @@
-pub mod Pieces
-pub mod Gathered
+pub mod Cursors
+pub mod Numbers
+pub mod Escapes
+pub mod Quotes
+pub mod Symbols
+pub mod Verdicts
+pub mod Parts
 pub mod Scan
+pub mod Gathered
+pub mod Coding

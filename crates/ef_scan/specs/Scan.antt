@@ -1,47 +1,42 @@
--- What a text is scanned to.
-use Rattle.std.specs.Prelude.{ℕ, List, [], ◌∷◌, ◌++◌, ◌≡◌, chars, IsUtf8}
-use Rattle.ef_base.specs.declared.fault.Fault.{Fault}
+-- What a text is scanned to, and what holds of texts without faulty forms.
+use Rattle.std.specs.Prelude.{ℕ, ◌≡◌, List, [], ◌∷◌, ◌++◌, map, chars, IsUtf8}
 use Rattle.ef_base.specs.Texts.{Texts}
-use Rattle.ef_base.specs.Positions.{first_position, place_at}
+use Rattle.ef_base.specs.Positions.{first_position}
 use Rattle.ef_base.specs.Cut.{Placed}
 pub use Rattle.ef_token.specs.TokenForm.{IsForm, AreForms}
-use Rattle.ef_token.specs.Lexeme.{Lexeme, CutsInto, AreTokens}
-use Rattle.ef_token.specs.declared.token.TokenKind.TheVariants as kind
+pub use Rattle.ef_token.specs.Scans.{IsOpen, AreComments, fault_at, Form, tokens, faulty, Forms, no_more, ended, broken, unended, IsCodingHere, HasCoding, IsCoding, NoCoding, FormsOf, latin, unicode, Scans, not_utf8, is_cut, AreOf, IsScanned, HasOneCut, HasOneScan}
+use Rattle.ef_token.specs.Lexeme.{AreTokens}
+use Rattle.ef_token.specs.Parts.{Part, CutsInto, lexemes_of}
 use Rattle.ef_token.specs.declared.token.Token.{Token}
 use Rattle.ef_token.specs.declared.token.ScannedForm.{ScannedForm}
-use Rattle.ef_token.specs.declared.token.ScannedForm.TheVariants.{Tokens, Faulty}
+use Rattle.ef_token.specs.declared.token.ScannedForm.TheVariants.{Tokens}
+
+-- ---- texts without faulty forms
 
 abbrev pub joined : List (List Token) → List Token
 joined [] = []
 joined (f ∷ fs) = f ++ joined fs
 
--- the bytes are a text of UTF-8 that is cut into lexemes of these tokens, which are such forms
-pub record ScansTo (all : Texts) (file : ℕ) (text : List ℕ) (forms : List (List Token)) : Type 0 where
+-- the bytes are scanned to these forms of tokens
+abbrev pub ScansTo : Texts → ℕ → List ℕ → List (List Token) → Type 0
+ScansTo all file text forms = Scans all file text (map tokens forms)
+
+-- then they are a text of UTF-8 that is cut into lexemes of these tokens, and comments; each form ends with its only
+-- full stop
+pub record IsOfTokens (all : Texts) (file : ℕ) (text : List ℕ) (forms : List (List Token)) : Type 0 where
   pub utf8 : IsUtf8 text
-  pub lexemes : List (Placed Lexeme)
-  pub cut : CutsInto first_position (chars text) lexemes
-  pub tokens : AreTokens all file lexemes (joined forms)
+  pub parts : List (Placed Part)
+  pub cut : CutsInto first_position (chars text) parts
+  pub tokens : AreTokens all file (lexemes_of parts) (joined forms)
   pub ends : AreForms forms
 
--- the text has no such forms under any table
-abbrev pub IsForeign : ℕ → List ℕ → Type 0
-IsForeign file text = (all : Texts) (forms : List (List Token)) → ScansTo all file text forms → ⊥
+-- scanned forms without a faulty one
+abbrev pub AreTokenForms : List ScannedForm → List (List Token) → Type 0
+AreTokenForms [] [] = Unit {0}
+AreTokenForms (Tokens ts ∷ scanned) (form ∷ forms) = (ts.items ≡ form) × AreTokenForms scanned forms
+AreTokenForms _ _ = ⊥
 
--- what is not built, at the start of the file
-abbrev pub not_built : ℕ → Fault
-not_built file = record { place = place_at file first_position; code = 500; words = [] }
-
--- the scanned forms are all of tokens, and these
-abbrev pub AreOf : List ScannedForm → List (List Token) → Type 0
-AreOf [] [] = Unit {0}
-AreOf (Tokens ts ∷ scanned) (form ∷ forms) = (ts.items ≡ form) × AreOf scanned forms
-AreOf _ _ = ⊥
-
--- the text's forms, or one faulty form where it has none
-abbrev pub IsScanned : Texts → ℕ → List ℕ → List ScannedForm → Type 0
-IsScanned all file text (Faulty fault ∷ []) = (fault ≡ not_built file) × IsForeign file text
-IsScanned all file text scanned = (forms : List (List Token)) × AreOf scanned forms × ScansTo all file text forms
-
--- the text is cut into lexemes in no second way
-abbrev pub HasOneCut : List ℕ → Type 0
-HasOneCut text = (ls ms : List (Placed Lexeme)) → CutsInto first_position (chars text) ls → CutsInto first_position (chars text) ms → ls ≡ ms
+-- what holds of each text without faulty forms
+pub record TokenFormLaws (text : List ℕ) : Type 0 where
+  pub of_tokens : (all : Texts) (file : ℕ) (forms : List (List Token)) → ScansTo all file text forms → IsOfTokens all file text forms
+  pub scanned : (all : Texts) (file : ℕ) (scanned : List ScannedForm) (forms : List (List Token)) → IsScanned all file text scanned → AreTokenForms scanned forms → ScansTo all file text forms

@@ -1,35 +1,57 @@
 // Classes of characters.
-ghost use Rattle.std.specs.Prelude.{◌≡◌};
-ghost use Rattle.ef_token.specs.Lexeme as lexeme;
+ghost use Rattle.std.specs.Prelude.{◌≡◌, ◌≤◌, IsTrue, length, take, true};
+ghost use Rattle.ef_base.specs.Characters as characters;
+ghost use Rattle.ef_base.specs.Characters.{Each};
+ghost use Rattle.ef_scan.specs.Cursors.{is_plain, test_of};
+
+use ef_token::continues_name;
+
+/// A class of which the scanner takes as many characters as there are.
+#[derive(Clone, Copy)]
+pub(crate) enum Class {
+    White,
+    Name,
+    Line,
+    Space,
+    /// What stands for itself in such quotes.
+    Inside(char),
+}
+
+impl Class {
+    pub(crate) fn has(self, c: char) -> bool
+        ensures { result ≡ test_of self c }
+    {
+        match self {
+            Class::White => is_white(c),
+            Class::Name => continues_name(c),
+            Class::Line => c != '\n',
+            Class::Space => c == ' ',
+            Class::Inside(quote) => c != quote && c != '\\',
+        }
+    }
+
+    fn has_plain(self, byte: u8) -> bool
+        ensures { IsTrue result → (is_plain byte ≡ true) × (test_of self byte ≡ true) }
+    {
+        byte < 128 && byte != b'\n' && self.has(byte as char)
+    }
+
+    /// How many characters of the class stand in front that are ASCII and end no line, at least as far as their bytes tell.
+    pub(crate) fn plain_width(self, bytes: &[u8]) -> usize
+        ensures within { result ≤ length bytes.now }
+        ensures plain { Each is_plain (take result bytes.now) }
+        ensures each { Each (test_of self) (take result bytes.now) }
+    {
+        let mut width = 0;
+        while width < bytes.len() && self.has_plain(bytes[width]) {
+            width += 1;
+        }
+        width
+    }
+}
 
 pub(crate) fn is_white(c: char) -> bool
-    ensures { result ≡ lexeme.is_white c }
+    ensures { result ≡ characters.is_white c }
 {
     c <= ' ' || ('\u{80}'..='\u{a0}').contains(&c)
-}
-
-pub(crate) fn is_digit(c: u8) -> bool
-    ensures { result ≡ lexeme.is_digit c }
-{
-    b'0' <= c && c <= b'9'
-}
-
-pub(crate) fn is_lower(c: u8) -> bool
-    ensures { result ≡ lexeme.is_lower c }
-{
-    b'a' <= c && c <= b'z'
-}
-
-/// What begins a variable.
-pub(crate) fn is_upper(c: u8) -> bool
-    ensures { result ≡ lexeme.is_upper c }
-{
-    b'A' <= c && c <= b'Z' || c == b'_'
-}
-
-/// What an atom or a variable goes on with.
-pub(crate) fn is_name_part(c: u8) -> bool
-    ensures { result ≡ lexeme.is_name_part c }
-{
-    is_lower(c) || is_upper(c) || is_digit(c) || c == b'@'
 }

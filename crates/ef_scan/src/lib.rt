@@ -1,16 +1,25 @@
-//! The scanner: a file's bytes to the tokens of its forms, and exactly those of its one cut into lexemes.
+//! The scanner: a file's bytes to the tokens of its forms and the faults of its faulty ones, and exactly those.
 #![tactic(auto)]
 
 mod class;
+mod codes;
+mod coding;
 mod cursor;
+mod escape;
 mod forms;
 mod gathered;
+mod integer;
 mod kind;
 mod lexeme;
+mod number;
 mod part;
-mod piece;
+mod quoted;
+mod skip;
+#[cfg(test)]
+mod spelling_tests;
 mod symbol;
 #[cfg(test)]
 mod tests;
+mod verdict;
 
 pub use forms::scan;

@@ -1,68 +1,59 @@
-// Parts of a text: fronts of ASCII characters and what is behind them.
-ghost use Rattle.std.specs.Prelude.{◌≡◌, ◌≤◌, ◌*◌, ◌+◌, ◌-◌, length, take, drop, ℕ, true};
-ghost use Rattle.ef_token.specs.Lexeme.{Each, is_name_part, is_digit, number_after};
-ghost use Rattle.ef_scan.specs.Pieces.{IsRun, IsValue, is_plain};
+// The parts of a text.
+ghost use Rattle.std.specs.Prelude.{◌≡◌, IfOk, false};
+ghost use Rattle.ef_base.specs.Characters.{is_white};
+ghost use Rattle.ef_scan.specs.Cursors.{IsInText, IsStep};
+ghost use Rattle.ef_scan.specs.Parts.{IsPartAt};
 
-use crate::class::{is_digit, is_name_part};
+use crate::class::Class;
+use crate::cursor::Cursor;
+use crate::lexeme::lexeme;
+use crate::skip::skip;
+use crate::verdict::{Piece, Verdict};
+use ef_base::NoMemory;
+use std::alloc::Global;
 
-pub(crate) fn front(text: &str, width: usize) -> &str
-    requires within { width ≤ length text.now }
-    requires plain { Each is_plain (take width text.now) }
-    ensures { result.now ≡ take width text.now }
-{
-    &text[..width]
+/// A lexeme, a comment behind its `%`, or the code of a fault, behind which the form is passed over.
+#[derive(Drop)]
+pub(crate) enum Part<'a> {
+    Lexeme(Piece<'a>),
+    Comment(&'a str),
+    Fault(u16),
 }
 
-pub(crate) fn behind(text: &str, width: usize) -> &str
-    requires within { width ≤ length text.now }
-    requires plain { Each is_plain (take width text.now) }
-    ensures { result.now ≡ drop width text.now }
-{
-    &text[width..]
+/// A part and the place behind it.
+#[derive(Drop)]
+pub(crate) struct Found<'a> {
+    pub part: Part<'a>,
+    pub behind: Cursor<'a>,
 }
 
-// How many characters of a name the text begins with.
-pub(crate) fn name_width(text: &[u8]) -> usize
-    ensures { IsRun is_name_part text.now result }
+/// The part at a place with this character, behind which the second place is.
+pub(crate) fn next_part<'a>(
+    alloc: Global,
+    at: Cursor<'a>,
+    first: char,
+    behind: Cursor<'a>,
+) -> Result<Found<'a>, NoMemory>
+    requires in_text { IsInText at }
+    requires step { IsStep at first behind }
+    requires solid { is_white first ≡ false }
+    ensures { IfOk result (λ found. IsPartAt at.entry found.part found.behind) }
 {
-    for (width, byte) in text.iter().enumerate() {
-        if !is_name_part(*byte) {
-            return width;
-        }
+    if first == '%' {
+        let run = behind.run(Class::Line);
+        return Ok(Found {
+            part: Part::Comment(behind.text_to(run.behind)),
+            behind: run.behind,
+        });
     }
-    text.len()
-}
-
-/// The number of digits at the front of a text, and their value if it lies below 2^127.
-#[derive(Clone, Copy)]
-pub(crate) struct Number {
-    pub width: usize,
-    pub value: Option<u128>,
-}
-
-pub(crate) fn digits(text: &[u8]) -> Number
-    ensures run { IsRun is_digit text.now result.width }
-    ensures value { IsValue (number_after 0 (take result.width text.now)) result.value }
-{
-    let mut value = Some(0);
-    for (width, byte) in text.iter().enumerate() {
-        if !is_digit(*byte) {
-            return Number { width, value };
-        }
-        value = with_digit(value, *byte);
+    match lexeme(alloc, at, first, behind)? {
+        Verdict::Found(piece, behind) => Ok(Found {
+            part: Part::Lexeme(piece),
+            behind,
+        }),
+        Verdict::Fault(code) => Ok(Found {
+            part: Part::Fault(code),
+            behind: skip(at),
+        }),
     }
-    Number {
-        width: text.len(),
-        value,
-    }
-}
-
-fn with_digit(value: Option<u128>, digit: u8) -> Option<u128>
-    requires { is_digit digit ≡ true }
-    ensures { (n : ℕ) → IsValue n value → IsValue (10 * n + (digit - 48)) result }
-{
-    let value = value?
-        .checked_mul(10)?
-        .checked_add(u128::from(digit - b'0'))?;
-    if value < 1 << 127 { Some(value) } else { None }
 }

@@ -1,6 +1,6 @@
 // Symbols: the longest that a text begins with.
 ghost use Rattle.std.specs.Prelude.{◌≡◌, ◌≢◌, ◌<◌, ◌≤◌, ◌++◌, [], ◌∷◌, IfSome, IfNone, length};
-ghost use Rattle.ef_scan.specs.Pieces.{Fits, IsLongestSymbol};
+ghost use Rattle.ef_scan.specs.Symbols.{Fits, IsLongestSymbol};
 ghost use Rattle.ef_token.specs.Words.{sym_text};
 ghost use Rattle.ef_token.specs.declared.word.Sym.{Sym};
 

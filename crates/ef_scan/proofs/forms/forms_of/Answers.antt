@@ -1,33 +1,27 @@
-use Rattle.std.proofs.Common.{sym, ◌∙◌}
-use Rattle.ef_scan.proofs.Scanning.{started, more_gathered, shorter, foreign_here, foreign_end, whole, positive, nothing}
+use Rattle.std.proofs.Common.{arith}
+use Rattle.ef_scan.specs.Cursors.{position_of}
+use Rattle.ef_scan.proofs.Cursors.{step_shorter}
+use Rattle.ef_scan.proofs.Scanning.{started, more_gathered, shorter, all_whole}
 use Rattle.ef_scan.proofs.forms.forms_of.Goals as goal
 
-pub lexemes-init : goal.lexemes-init
-lexemes-init c =
-    started c.args.names.now c.args.file c.args.text.now c.new-start.result c.behind_gap-cursor.result c.new-gathered.result c.new-start.ensures.rest c.new-start.ensures.position
-    c.behind_gap-cursor.ensures.behind c.behind_gap-cursor.ensures.stops c.new-gathered.ensures
+pub parts-init : goal.parts-init
+parts-init c =
+    started c.args.names.now c.args.file c.args.text.now c.new-start.result c.run-white.result.behind c.run-white.result.count c.new-gathered.result c.new-start.ensures.rest c.new-start.ensures.position
+    c.run-white.ensures c.new-gathered.ensures
 
-pub returns-in_default-clause-none : goal.returns-in_default-clause-none
-returns-in_default-clause-none c =
-    foreign_here c.args.names.now c.lexemes.names c.args.file c.args.text.now c.lexemes.cursor c.lexemes.gathered c.lexemes.invariant (positive _ (sym c.is_empty.ensures ∙ c.lexemes-test.true))
-    c.in_default.ensures.none
+pub place-place-requires-clause-some : goal.place-place-requires-clause-some
+place-place-requires-clause-some c = omega (arith, step_shorter c.parts.cursor c.in-Some.first.1 c.in-Some.first.0 c.in-Some.ensures.some)
 
-pub lexemes-smaller : goal.lexemes-smaller
-lexemes-smaller c = shorter c.lexemes.cursor c.behind-behind.result c.behind_gap-cursor-in-lexemes.result c.in-Some.found c.in-Some.ensures.some c.behind-behind.ensures c.behind_gap-cursor-in-lexemes.ensures.behind
+pub parts-smaller : goal.parts-smaller
+parts-smaller c = shorter c.parts.cursor c.in_ok-found.found.behind c.run-gap.result.behind c.run-gap.result.count c.in_ok-found.found.part c.in_ok-found.ensures c.run-gap.ensures
 
-pub lexemes-preserved : goal.lexemes-preserved
-lexemes-preserved c =
-    more_gathered c.args.names.now c.lexemes.names c.kind_of.new.names c.args.file c.args.text.now c.lexemes.cursor c.behind-behind.result c.behind_gap-cursor-in-lexemes.result
-    c.lexemes.gathered c.push.new.self c.in-Some.found (record { kind = c.in_ok-kind.kind; place = c.place-place.result }) c.lexemes.invariant c.in-Some.ensures.some c.behind-behind.ensures
-    c.behind_gap-cursor-in-lexemes.ensures.behind c.behind_gap-cursor-in-lexemes.ensures.stops c.in_ok-kind.ensures.kept c.in_ok-kind.ensures.differ c.place-place.ensures c.in_ok-kind.ensures.kind
-    c.in_ok-push.ensures
+pub parts-preserved : goal.parts-preserved
+parts-preserved c =
+    let at = c.in_ok-found.ensures in
+    more_gathered c.args.names.now c.parts.names c.gather.new.names c.args.file c.args.text.now c.parts.cursor c.in_ok-found.found.behind c.run-gap.result.behind c.run-gap.result.count
+    c.parts.gathered c.gather.new.gathered c.in_ok-found.found.part c.parts.invariant at c.run-gap.ensures c.in_ok-gather.ensures.kept c.in_ok-gather.ensures.differ
+    (λ all ps later h. c.in_ok-gather.ensures.gathers all c.args.file ps at.is_part (position_of c.parts.cursor) later at.is c.place-place.ensures h)
 
-pub returns-in-Some-finish-clause-some : goal.returns-in-Some-finish-clause-some
-returns-in-Some-finish-clause-some c = λ all later.
-    whole c.args.names.now c.lexemes.names c.args.file c.args.text.now c.lexemes.cursor c.lexemes.gathered c.in-Some-finish.forms.items c.utf8.text c.lexemes.invariant
-    (nothing _ (sym c.is_empty.ensures ∙ c.lexemes-test.false)) c.in-Some-finish.ensures.some.0 c.in-Some-finish.ensures.some.1 all later
-
-pub returns-in-None-clause-none : goal.returns-in-None-clause-none
-returns-in-None-clause-none c =
-    foreign_end c.args.names.now c.lexemes.names c.args.file c.args.text.now c.lexemes.cursor c.lexemes.gathered c.lexemes.invariant
-    (nothing _ (sym c.is_empty.ensures ∙ c.lexemes-test.false)) c.in-None.ensures.none
+pub returns-clause-forms : goal.returns-clause-forms
+returns-clause-forms c =
+    all_whole c.args.names.now c.parts.names c.args.file c.args.text.now c.parts.cursor c.parts.gathered c.finish.result c.utf8.text c.parts.invariant c.in_default.ensures.none c.finish.ensures

@@ -1,10 +1,8 @@
-use Rattle.ef_scan.proofs.KindOf.{atom_kind, variable_kind}
+use Rattle.std.proofs.Common.{rules, subst}
+use Rattle.ef_scan.specs.Verdicts.{Holds}
+use Rattle.ef_scan.proofs.Holding.{text_string}
 use Rattle.ef_scan.proofs.kind.kind_of.Goals as goal
 
-pub returns-in_ok-intern-in-Atom-clause-kind : goal.returns-in_ok-intern-in-Atom-clause-kind
-returns-in_ok-intern-in-Atom-clause-kind c = λ all later.
-    atom_kind all c.args.piece c.in-Atom.name c.in_ok-intern-in-Atom.field-0 c.in-Atom.is c.requires.plain c.requires.built (c.in_ok-intern-in-Atom.ensures.named all later)
-
-pub returns-in_ok-intern-in-Var-clause-kind : goal.returns-in_ok-intern-in-Var-clause-kind
-returns-in_ok-intern-in-Var-clause-kind c = λ all later.
-    variable_kind all c.args.piece c.in-Var.name c.in_ok-intern-in-Var.field-0 c.in-Var.is c.requires.plain c.requires.built (c.in_ok-intern-in-Var.ensures.named all later)
+pub returns-in_ok-codes_in-in-Text-clause-kind : goal.returns-in_ok-codes_in-in-Text-clause-kind
+returns-in_ok-codes_in-in-Text-clause-kind c = λ l h all later.
+    text_string all c.in-Text.text c.from_vec.result l (search rules) (search rules) (subst (λ p. Holds p l) c.in-Text.is h)

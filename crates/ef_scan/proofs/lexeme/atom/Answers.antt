@@ -1,20 +1,32 @@
-use Rattle.std.proofs.Common.{subst, arith, ◌∙◌, sym}
-use Rattle.ef_token.specs.Lexeme.{is_name_part}
-use Rattle.ef_scan.specs.Pieces.{IsRun}
-use Rattle.ef_scan.proofs.Found.{atom_found, atom_long, word_found, name_plain}
+use Rattle.std.proofs.Common.{arith, refl}
+use Rattle.ef_token.specs.Lexeme as x
+use Rattle.ef_scan.proofs.Verdicts.{atom_at, word_at, atom_found, atom_long, word_front, word_bytes}
 use Rattle.ef_scan.proofs.lexeme.atom.Goals as goal
 
-pub front-name-requires-clause-plain : goal.front-name-requires-clause-plain
-front-name-requires-clause-plain c = name_plain c.args.text.now c.name_width-width.result (subst (λ t. IsRun is_name_part t c.name_width-width.result) c.as_bytes.ensures.value c.name_width-width.ensures)
+pub returns-in-Some : goal.returns-in-Some
+returns-in-Some c =
+    let run = c.requires.run in (
+      x.word c.in-Some.word,
+      refl,
+      word_at c.args.at c.args.run.behind c.args.run.count run c.in-Some.word
+          (word_front run.front c.text_to-name.result.now c.in-Some.word (c.text_to-name.ensures run.front run.behind) c.in-Some.ensures.some),
+    )
 
-pub returns-in-Some-clause-some : goal.returns-in-Some-clause-some
-returns-in-Some-clause-some c =
-    word_found c.args.text.now c.name_width-width.result _ c.utf8.text (subst (λ t. IsRun is_name_part t c.name_width-width.result) c.as_bytes.ensures.value c.name_width-width.ensures) (sym c.front-name.ensures ∙ c.in-Some.ensures.some)
+pub returns-then-run-gt-MAX_ATOM : goal.returns-then-run-gt-MAX_ATOM
+returns-then-run-gt-MAX_ATOM c =
+    let run = c.requires.run in
+    atom_long c.args.at c.args.run.behind run.front
+    (atom_at c.args.at c.args.run.behind c.args.run.count run c.requires.begins
+    (λ w e. c.in_default.ensures.none w (word_bytes run.front c.text_to-name.result.now w (c.text_to-name.ensures run.front run.behind) e)))
+    (omega (arith, run.counted))
 
-pub returns-then-width-gt-MAX_ATOM-clause-none : goal.returns-then-width-gt-MAX_ATOM-clause-none
-returns-then-width-gt-MAX_ATOM-clause-none c =
-    atom_long c.args.text.now c.front-name.result.now c.name_width-width.result c.utf8.text c.requires (subst (λ t. IsRun is_name_part t c.name_width-width.result) c.as_bytes.ensures.value c.name_width-width.ensures) c.front-name.ensures c.in_default.ensures.none (omega arith)
-
-pub returns-clause-some : goal.returns-clause-some
-returns-clause-some c =
-    atom_found c.args.text.now c.front-name.result c.name_width-width.result c.utf8.text c.requires (subst (λ t. IsRun is_name_part t c.name_width-width.result) c.as_bytes.ensures.value c.name_width-width.ensures) c.front-name.ensures c.in_default.ensures.none (omega arith)
+pub returns : goal.returns
+returns c =
+    let run = c.requires.run in (
+      x.atom run.front,
+      (c.text_to-name.ensures run.front run.behind, omega (arith, run.counted)),
+      atom_found c.args.at c.args.run.behind run.front
+          (atom_at c.args.at c.args.run.behind c.args.run.count run c.requires.begins
+          (λ w e. c.in_default.ensures.none w (word_bytes run.front c.text_to-name.result.now w (c.text_to-name.ensures run.front run.behind) e)))
+          (omega (arith, run.counted)),
+    )

@@ -14,5 +14,5 @@ pub mod RenamedBuilt
 pub mod RenamedFaults
 pub mod Renaming
 pub mod Sizes
+pub mod Taken
 pub mod Told
-pub mod White

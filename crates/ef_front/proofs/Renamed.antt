@@ -12,11 +12,11 @@ use Rattle.ef_token.specs.declared.token.TokenKind.{TokenKind}
 use Rattle.ef_token.specs.declared.token.TokenKind.TheVariants as kind
 use Rattle.ef_token.specs.declared.token.Token.{Token}
 use Rattle.ef_token.specs.declared.word.Sym.TheVariants as sy
-use Rattle.ef_token.specs.Lexeme.{Lexeme, IsKind, AreTokens, atom, variable, integer, word, symbol, full_stop}
-use Rattle.ef_scan.specs.Scan.{IsForm, AreForms, joined, ScansTo}
-use Rattle.ef_scan.proofs.Scanning.{one_way}
+use Rattle.ef_token.specs.Lexeme.{Lexeme, IsKind, AreTokens, atom, variable, integer, character, string, word, symbol, full_stop}
+use Rattle.ef_scan.specs.Scan.{tokens, joined, ScansTo}
+use Rattle.ef_token.proofs.OneScan.{AreAlike, two_scans}
 use Rattle.ef_forms.specs.Tree.{FormTree, PlacedTree, ModuleTree, module_name, export, function}
-use Rattle.ef_forms.specs.Built.{IsBuilt, functions_in, most_functions}
+use Rattle.ef_forms.specs.Built.{Each, IsBuilt, functions_in, most_functions}
 use Rattle.ef_parse.specs.Grammar as g
 use Rattle.ef_parse.specs.Grammar.{token, start_of}
 use Rattle.ef_module.specs.Forms.{SpellsForm, SpellsForms, SpellsModule, IsInOrder, AreFunctions, arity_of, a_module_name, an_export, a_function}
@@ -25,7 +25,7 @@ use Rattle.ef_front.proofs.OfNames.{KindOf, TokensOf, FormsOf, first, second, fo
 use Rattle.ef_front.proofs.RenamedBuilt.{Keeps, functions_renamed, built_module}
 use Rattle.ef_front.proofs.RenamedFaults.{faults_renamed}
 use Rattle.ef_front.proofs.OneModule.{one_module}
-use Rattle.ef_front.specs.Source.{module_faults}
+use Rattle.ef_front.specs.Source.{IsAnonymous, IsNamed, module_faults}
 
 -- ---- the name of a text
 
@@ -49,59 +49,9 @@ found (t ∷ ts) text i h = go (found ts text) (bytes_eq t text) refl i h
 abbrev renaming : Texts → Texts → Name → Name
 renaming a b n = record { index = number_of a (text b n) }
 
--- ---- forms are split in one way
-
-one_front : (f h : List Token) (xs ys : List Token) → IsForm f → IsForm h → f ++ xs ≡ h ++ ys → (f ≡ h) × (xs ≡ ys)
-one_front [] h xs ys one two e = absurd one
-one_front (t ∷ []) [] xs ys one two e = absurd two
-one_front (t ∷ u ∷ f) [] xs ys one two e = absurd two
-one_front (t ∷ []) (v ∷ []) xs ys one two e = (ap (λ x. x ∷ []) (cc e), cc e)
-one_front (t ∷ []) (v ∷ w ∷ h) xs ys one two e =
-    let same : t ≡ v = cc e in
-    absurd (two.0 (ap (λ (x : Token). x.kind) (sym same) ∙ one))
-one_front (t ∷ u ∷ f) (v ∷ []) xs ys one two e =
-    let same : t ≡ v = cc e in
-    absurd (one.0 (ap (λ (x : Token). x.kind) same ∙ two))
-one_front (t ∷ u ∷ f) (v ∷ w ∷ h) xs ys one two e =
-    let rest = one_front (u ∷ f) (w ∷ h) xs ys one.1 two.1 (cc e) in
-    (ap₂ (λ x l. x ∷ l) (cc e) rest.0, rest.1)
-
-one_split : (fs hs : List (List Token)) → AreForms fs → AreForms hs → joined fs ≡ joined hs → fs ≡ hs
-one_split [] [] one two e = refl
-one_split [] ([] ∷ hs) one two e = absurd two.0
-one_split [] ((t ∷ h) ∷ hs) one two e = absurd (cc)
-one_split ([] ∷ fs) [] one two e = absurd one.0
-one_split ((t ∷ f) ∷ fs) [] one two e = absurd (cc)
-one_split (f ∷ fs) (h ∷ hs) one two e =
-    let front = one_front f h (joined fs) (joined hs) one.0 two.0 e in
-    ap₂ (λ x l. x ∷ l) front.0 (one_split fs hs one.1 two.1 front.1)
+-- ---- the order of forms
 
 module _ (r : Name → Name) where
-  was_dot : (k : TokenKind) → renamed_kind r k ≡ kind.Dot → k ≡ kind.Dot
-  was_dot (kind.Atom n) e = absurd (cc)
-  was_dot (kind.Var n) e = absurd (cc)
-  was_dot (kind.Int i) e = e
-  was_dot (kind.Char c) e = e
-  was_dot (kind.Str s) e = e
-  was_dot (kind.Word w) e = e
-  was_dot (kind.Sym s) e = e
-  was_dot kind.Dot e = e
-
-  form_renamed : (f : List Token) → IsForm f → IsForm (map (renamed_token r) f)
-  form_renamed [] h = absurd h
-  form_renamed (t ∷ []) h = ap (renamed_kind r) h
-  form_renamed (t ∷ u ∷ ts) h = (λ e. h.0 (was_dot t.kind e), form_renamed (u ∷ ts) h.1)
-
-  forms_renamed : (fs : List (List Token)) → AreForms fs → AreForms (map (map (renamed_token r)) fs)
-  forms_renamed [] h = tt
-  forms_renamed (f ∷ fs) h = (form_renamed f h.0, forms_renamed fs h.1)
-
-  joined_renamed : (fs : List (List Token)) → joined (map (map (renamed_token r)) fs) ≡ map (renamed_token r) (joined fs)
-  joined_renamed [] = refl
-  joined_renamed (f ∷ fs) = ap (λ l. map (renamed_token r) f ++ l) (joined_renamed fs) ∙ sym (apart r f (joined fs))
-
-  -- ---- the order of forms
-
   functions_stay : (fs : List PlacedTree) → AreFunctions fs → AreFunctions (map (renamed_placed r) fs)
   functions_stay [] h = tt
   functions_stay (f ∷ fs) h = go (functions_stay fs) f.form h
@@ -176,13 +126,19 @@ module _ (a b : Texts) (differ : AllDiffer a) where
   kinds_alike (atom cs) (kind.Atom m) _ h k = absurd k
   kinds_alike (atom cs) _ _ h k = absurd h
   kinds_alike (variable cs) (kind.Var m) (kind.Var n) h k =
-      let alike = names_alike m n (encode_utf8_all cs) h.0 k.0 in
+      let alike = names_alike m n (encode_utf8_all cs) h k in
       (ap kind.Var alike.0, alike.1)
   kinds_alike (variable cs) (kind.Var m) _ h k = absurd k
   kinds_alike (variable cs) _ _ h k = absurd h
   kinds_alike (integer n) (kind.Int i) (kind.Int j) h k = (ap kind.Int (h.0 ∙ sym k.0), tt)
   kinds_alike (integer n) (kind.Int i) _ h k = absurd k
   kinds_alike (integer n) _ _ h k = absurd h
+  kinds_alike (character c) (kind.Char d) (kind.Char e) h k = (ap kind.Char (h ∙ sym k), tt)
+  kinds_alike (character c) (kind.Char d) _ h k = absurd k
+  kinds_alike (character c) _ _ h k = absurd h
+  kinds_alike (string cs) (kind.Str ds) (kind.Str es) h k = (ap kind.Str (h ∙ sym k), tt)
+  kinds_alike (string cs) (kind.Str ds) _ h k = absurd k
+  kinds_alike (string cs) _ _ h k = absurd h
   kinds_alike (word w) (kind.Word u) (kind.Word v) h k = (ap kind.Word (h ∙ sym k), tt)
   kinds_alike (word w) (kind.Word u) _ h k = absurd k
   kinds_alike (word w) _ _ h k = absurd h
@@ -212,17 +168,53 @@ pub record AreRenamed (a b : Texts) (r : Name → Name) (forms_a forms_b : List 
   pub renamed : map (map (renamed_token r)) forms_b ≡ forms_a
   pub keep : TokensOf (Keeps a b r) (joined forms_b)
 
+-- the same of one form
+abbrev IsRenamed : Texts → Texts → (Name → Name) → List Token → List Token → Type 0
+IsRenamed a b r xs ys = (xs ≡ map (renamed_token r) ys) × TokensOf (Keeps a b r) ys
+
+tokens_both : (Q : Name → Type 0) (ts us : List Token) → TokensOf Q ts → TokensOf Q us → TokensOf Q (ts ++ us)
+tokens_both Q [] us h k = k
+tokens_both Q (t ∷ ts) us h k = (h.0, tokens_both Q ts us h.1 k)
+
+all_renamed : (a b : Texts) (r : Name → Name) (forms_a forms_b : List (List Token)) → AreAlike (IsRenamed a b r) (map tokens forms_a) (map tokens forms_b) → AreRenamed a b r forms_a forms_b
+all_renamed a b r [] [] h = record { renamed = refl; keep = tt }
+all_renamed a b r [] (g ∷ gs) h = absurd h
+all_renamed a b r (f ∷ fs) [] h = absurd h
+all_renamed a b r (f ∷ fs) (g ∷ gs) h =
+    let rest = all_renamed a b r fs gs h.1 in
+    record { renamed = ap₂ (λ x l. x ∷ l) (sym h.0.0) rest.renamed; keep = tokens_both (Keeps a b r) g (joined gs) h.0.1 rest.keep }
+
 pub forms_alike : (a b : Texts) (file : ℕ) (source : List ℕ) (forms_a forms_b : List (List Token)) → AllDiffer a → ScansTo a file source forms_a → ScansTo b file source forms_b
     → AreRenamed a b (renaming a b) forms_a forms_b
 forms_alike a b file source forms_a forms_b differ one two =
-    let cut : two.lexemes ≡ one.lexemes = one_way source two.lexemes one.lexemes two.cut one.cut in
-    let alike = tokens_alike a b differ file one.lexemes (joined forms_a) (joined forms_b) one.tokens
-    (subst (λ ls. AreTokens b file ls (joined forms_b)) cut two.tokens) in
-    record {
-      renamed = one_split (map (map (renamed_token (renaming a b))) forms_b) forms_a (forms_renamed (renaming a b) forms_b two.ends) one.ends
-          (joined_renamed (renaming a b) forms_b ∙ sym alike.0);
-      keep = alike.1;
-    }
+    all_renamed a b (renaming a b) forms_a forms_b
+    (two_scans a b file source (IsRenamed a b (renaming a b)) (map tokens forms_a) (map tokens forms_b) (tokens_alike a b differ file) one two)
+
+-- none is the anonymous variable under the other table
+token_named : (a b : Texts) (r : Name → Name) (k : TokenKind) → KindOf (Keeps a b r) k → (IsAnonymous b k → ⊥) → IsAnonymous a (renamed_kind r k) → ⊥
+token_named a b r (kind.Var n) keep named is = named (sym keep.same ∙ is)
+token_named a b r (kind.Atom n) keep named is = is
+token_named a b r (kind.Int i) keep named is = is
+token_named a b r (kind.Char c) keep named is = is
+token_named a b r (kind.Str s) keep named is = is
+token_named a b r (kind.Word w) keep named is = is
+token_named a b r (kind.Sym s) keep named is = is
+token_named a b r kind.Dot keep named is = is
+
+tokens_named : (a b : Texts) (r : Name → Name) (ts : List Token) → TokensOf (Keeps a b r) ts → Each (IsNamed b) ts → Each (IsNamed a) (map (renamed_token r) ts)
+tokens_named a b r [] keep named = tt
+tokens_named a b r (t ∷ ts) keep named = (token_named a b r t.kind keep.0 named.0, tokens_named a b r ts keep.1 named.1)
+
+forms_named : (a b : Texts) (r : Name → Name) (forms : List (List Token)) → TokensOf (Keeps a b r) (joined forms) → Each (Each (IsNamed b)) forms → Each (Each (IsNamed a)) (map (map (renamed_token r)) forms)
+forms_named a b r [] keep named = tt
+forms_named a b r (f ∷ fs) keep named =
+    (tokens_named a b r f (first (Keeps a b r) f (joined fs) keep) named.0, forms_named a b r fs (second (Keeps a b r) f (joined fs) keep) named.1)
+
+pub other_named : (a b : Texts) (source : List ℕ) (forms_a forms_b : List (List Token)) → AllDiffer a → ScansTo a 0 source forms_a → ScansTo b 0 source forms_b → Each (Each (IsNamed b)) forms_b
+    → Each (Each (IsNamed a)) forms_a
+other_named a b source forms_a forms_b differ one two named =
+    let alike = forms_alike a b 0 source forms_a forms_b differ one two in
+    subst (Each (Each (IsNamed a))) alike.renamed (forms_named a b (renaming a b) forms_b alike.keep named)
 
 -- the module of a text under one table is, renamed, one under the other, with the same faults
 pub other_module : (a b : Texts) (source : List ℕ) (forms_a forms_b : List (List Token)) (m : ModuleTree) → AllDiffer a → AllDiffer b → ScansTo a 0 source forms_a → ScansTo b 0 source forms_b

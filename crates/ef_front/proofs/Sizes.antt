@@ -1,17 +1,18 @@
 -- A function weighs no more than the bytes of its source: each node takes a token, and each token a character.
-use Rattle.std.proofs.Common.{◌≡◌, ◌≤◌, ◌+◌, ℕ, suc, max, List, [], ◌∷◌, ◌++◌, length, sym, ap, ◌∙◌, subst, arith, length-append, Bool, false}
-use Rattle.std.specs.Prelude.{chars, encode_utf8_all, IsUtf8}
+use Rattle.std.proofs.Common.{◌≡◌, ◌≤◌, ◌+◌, ℕ, List, [], ◌∷◌, ◌++◌, length, ap, ◌∙◌, arith, length-append}
+use Rattle.std.specs.Prelude.{chars, encode_utf8_all}
 use Rattle.std.proofs.lemmas.Str.{encodes-chars, length-le-encodes}
 use Rattle.ef_base.specs.declared.name.Name.{Name}
 use Rattle.ef_base.specs.Texts.{Texts}
 use Rattle.ef_base.specs.Positions.{Position, first_position, position_after}
-use Rattle.ef_base.specs.Cut.{Placed, Cuts}
-use Rattle.ef_base.specs.Taken.{Begins}
-use Rattle.ef_token.specs.Lexeme.{Lexeme, Gap, Spelled, CutsInto, AreTokens}
+use Rattle.ef_base.specs.Cut.{Placed}
+use Rattle.ef_token.specs.Lexeme.{Lexeme, AreTokens}
+use Rattle.ef_token.specs.Parts.{Part, lexeme, comment, fault, CutsInto, lexemes_of, with_lexeme}
 use Rattle.ef_token.specs.declared.token.Token.{Token}
 use Rattle.ef_scan.specs.Scan.{ScansTo, joined}
-use Rattle.ef_scan.proofs.Lexemes.{cut_facts}
-use Rattle.ef_forms.specs.Tree.{Tree, Trees, Clauses, FunctionTree, FormTree, PlacedTree, ModuleTree, module_name, export, function}
+use Rattle.ef_token.proofs.Parting.{part_some}
+use Rattle.ef_scan.proofs.TokenForms.{token_forms}
+use Rattle.ef_forms.specs.Tree.{Tree, Trees, Clauses, FunctionTree, FormTree, PlacedTree, ModuleTree}
 use Rattle.ef_forms.specs.Weight.{weight, all_weight, clauses_weight, function_weight}
 use Rattle.ef_forms.specs.Built.{Each, functions_in, functions_of}
 use Rattle.ef_parse.specs.Grammar.{Spells, SpellsAll, SpellsSome, SpellsClauses, a_variable, an_atom, an_integer, parentheses, a_call, a_remote, nothing, some, one, and_more, one_clause}
@@ -79,23 +80,30 @@ as_many all file [] (t ∷ ts) are = absurd are
 as_many all file (l ∷ ls) [] are = absurd are
 as_many all file (l ∷ ls) (t ∷ ts) are = let rest = as_many all file ls ts are.2 in omega arith
 
-not_empty : (test : ℕ → Bool) (value : Bool) (front : List ℕ) → Begins test value front → 1 ≤ length front
-not_empty test value [] h = absurd h
-not_empty test value (c ∷ cs) h = omega arith
-
-cut_length : (at : Position) (text : List ℕ) (ls : List (Placed Lexeme)) → CutsInto at text ls → length ls ≤ length text
+cut_length : (at : Position) (text : List ℕ) (ps : List (Placed Part)) → CutsInto at text ps → length ps ≤ length text
 cut_length at text [] cut = omega arith
-cut_length at text (l ∷ ls) cut =
-    let rest = cut_length (position_after l.at cut.1) cut.2 ls cut.8 in
-    let front : 1 ≤ length cut.1 = not_empty cut_facts.begins_gap false cut.1 (cut_facts.lexeme l.lexeme cut.1 cut.2 cut.6) in
+cut_length at text (p ∷ ps) cut =
+    let rest = cut_length (position_after p.at cut.1) cut.2 ps cut.8 in
+    let front = part_some p.lexeme cut.1 cut.2 cut.6 in
     let parts : length text ≡ length cut.0 + (length cut.1 + length cut.2) = ap length cut.3 ∙ length-append cut.0 (cut.1 ++ cut.2) ∙ ap (λ n. length cut.0 + n) (length-append cut.1 cut.2) in
     omega arith
+
+few_lexemes : (ps : List (Placed Part)) → length (lexemes_of ps) ≤ length ps
+few_lexemes [] = omega arith
+few_lexemes (p ∷ ps) = let rest = few_lexemes ps in go p.lexeme rest
+  where
+    go : (k : Part) → length (lexemes_of ps) ≤ length ps → length (with_lexeme k p.at (lexemes_of ps)) ≤ length (p ∷ ps)
+    go (lexeme l) rest = omega arith
+    go (comment cs) rest = omega arith
+    go (fault code) rest = omega arith
 
 -- the functions of a module weigh no more than the bytes of its source
 pub light : (names all : Texts) (source : List ℕ) (forms : List (List Token)) (m : ModuleTree) → ScansTo names 0 source forms → SpellsModule all m forms → AreLight (length source) (functions_in m.forms)
 light names all source forms m scanned spelled =
-    let tokens : length (joined forms) ≡ length scanned.lexemes = as_many names 0 scanned.lexemes (joined forms) scanned.tokens in
-    let lexemes : length scanned.lexemes ≤ length (chars source) = cut_length first_position (chars source) scanned.lexemes scanned.cut in
+    let is = (token_forms source).of_tokens names 0 forms scanned in
+    let tokens : length (joined forms) ≡ length (lexemes_of is.parts) = as_many names 0 (lexemes_of is.parts) (joined forms) is.tokens in
+    let lexemes : length (lexemes_of is.parts) ≤ length is.parts = few_lexemes is.parts in
+    let parts : length is.parts ≤ length (chars source) = cut_length first_position (chars source) is.parts is.cut in
     let bytes : length (chars source) ≤ length (encode_utf8_all (chars source)) = length-le-encodes (chars source) in
-    let same : length (encode_utf8_all (chars source)) ≡ length source = ap length (encodes-chars source scanned.utf8) in
+    let same : length (encode_utf8_all (chars source)) ≡ length source = ap length (encodes-chars source is.utf8) in
     light_more (length (joined forms)) (length source) (functions_in m.forms) (omega arith) (forms_light all m.forms forms spelled.spelled)

@@ -1,12 +1,12 @@
 -- What is made of the forms of a source, and of its module.
-use Rattle.std.specs.Prelude.{ℕ, List, [], ◌∷◌, ◌++◌, ◌≡◌, ◌≢◌, ◌⊎◌, Bool, true, false}
+use Rattle.std.specs.Prelude.{List, [], ◌∷◌, ◌≡◌, ◌≢◌, ◌⊎◌}
+use Rattle.std.specs.List.{flat_map}
 use Rattle.ef_base.specs.declared.fault.Fault.{Fault}
 use Rattle.ef_base.specs.Faults.{set_of}
 use Rattle.ef_base.specs.Texts.{Texts, AllUtf8, Extends}
 use Rattle.ef_token.specs.declared.token.Token.{Token}
 use Rattle.ef_token.specs.declared.token.ScannedForm.{ScannedForm}
 use Rattle.ef_token.specs.declared.token.ScannedForm.TheVariants.{Tokens, Faulty as faulty_form}
-use Rattle.ef_scan.specs.Scan.{AreOf}
 use Rattle.ef_forms.specs.Tree.{ModuleTree}
 use Rattle.ef_forms.specs.Built.{Each, IsBuilt, functions_in}
 use Rattle.ef_module.specs.Forms.{SpellsModule}
@@ -21,16 +21,19 @@ use Rattle.ef_front.specs.declared.compiling.Compiled.TheVariants.{Module, Fault
 use Rattle.ef_front.specs.Source.{module_faults, at_start}
 use Rattle.ef_front.specs.Runs.{IsWritable}
 
--- some form is faulty
-abbrev pub HasFaulty : List ScannedForm → Type 0
-HasFaulty [] = ⊥
-HasFaulty (faulty_form fault ∷ scanned) = Unit {0}
-HasFaulty (Tokens ts ∷ scanned) = HasFaulty scanned
+-- the fault of a faulty form, and the tokens of another
+abbrev pub fault_of : ScannedForm → List Fault
+fault_of (Tokens ts) = []
+fault_of (faulty_form fault) = fault ∷ []
 
--- the scanned forms are these lists of tokens, or some form is faulty
-abbrev pub AreTaken : List ScannedForm → Bool → List (List Token) → Type 0
-AreTaken scanned true forms = HasFaulty scanned
-AreTaken scanned false forms = AreOf scanned forms
+abbrev pub tokens_of : ScannedForm → List (List Token)
+tokens_of (Tokens ts) = ts.items ∷ []
+tokens_of (faulty_form fault) = []
+
+-- the faults, sorted, and the lists of tokens of scanned forms
+pub record AreTaken (scanned : List ScannedForm) (faults : List Fault) (forms : List (List Token)) : Type 0 where
+  pub faulty : faults ≡ set_of (flat_map fault_of scanned)
+  pub whole : forms ≡ flat_map tokens_of scanned
 
 -- the functions of each module that the forms spell are not too heavy for their variables
 abbrev pub SpellLight : List (List Token) → Type 0

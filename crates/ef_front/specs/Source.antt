@@ -1,31 +1,36 @@
 -- The modules, the faults and the texts of a source: relations over its bytes.
-use Rattle.std.specs.Prelude.{ℕ, List, [], ◌∷◌, ◌≡◌, chars, IsUtf8}
+use Rattle.std.specs.Prelude.{ℕ, List, [], ◌∷◌, ◌≡◌, ◌≢◌, codes}
 use Rattle.std.specs.List.{flat_map}
 use Rattle.ef_base.specs.declared.fault.Fault.{Fault}
 use Rattle.ef_base.specs.Faults.{set_of}
 use Rattle.ef_base.specs.Positions.{first_position, place_at}
-use Rattle.ef_base.specs.Texts.{Texts, AllDiffer, Extends}
+use Rattle.ef_base.specs.Texts.{Texts, AllDiffer, Extends, text}
+use Rattle.ef_token.specs.declared.token.TokenKind.{TokenKind}
+use Rattle.ef_token.specs.declared.token.TokenKind.TheVariants as kind
 use Rattle.ef_token.specs.declared.token.Token.{Token}
-use Rattle.ef_token.specs.Lexeme.{Each, is_white}
-use Rattle.ef_scan.specs.Scan.{ScansTo}
+use Rattle.ef_scan.specs.Scan.{Form, tokens, faulty, Scans, ScansTo}
 use Rattle.ef_forms.specs.Tree.{FormTree, PlacedTree, ModuleTree, module_name, export, function}
-use Rattle.ef_forms.specs.Built.{IsBuilt}
+use Rattle.ef_forms.specs.Built.{Each, IsBuilt}
 use Rattle.ef_forms.specs.Ways.{function_faults}
 use Rattle.ef_module.specs.Forms.{SpellsModule}
 use Rattle.ef_front.specs.Written.{IsWritten}
+
+-- the anonymous variable `_`, which is not built
+abbrev pub IsAnonymous : Texts → TokenKind → Type 0
+IsAnonymous all (kind.Var n) = text all n ≡ codes "_"
+IsAnonymous all _ = ⊥
+
+abbrev pub IsNamed : Texts → Token → Type 0
+IsNamed all t = IsAnonymous all t.kind → ⊥
 
 -- the text is one of the module, whose names are those of the table
 pub record IsSource (all : Texts) (source : List ℕ) (m : ModuleTree) : Type 0 where
   pub differ : AllDiffer all
   pub forms : List (List Token)
   pub scanned : ScansTo all 0 source forms
+  pub named : Each (Each (IsNamed all)) forms
   pub spelled : SpellsModule all m forms
   pub built : IsBuilt all m
-
--- white space alone
-pub record IsBlank (source : List ℕ) : Type 0 where
-  pub utf8 : IsUtf8 source
-  pub white : Each is_white (chars source)
 
 -- a fault at the start of the main file
 abbrev pub at_start : ℕ → List ℕ → Fault
@@ -43,13 +48,27 @@ forms_faults all fs = flat_map (λ (f : PlacedTree). form_faults all f.form) fs
 abbrev pub module_faults : Texts → ModuleTree → List Fault
 module_faults all m = forms_faults all m.forms
 
--- the faults of a source, sorted: those of its module; of white space alone, that the module attribute lacks; of
--- anything else, that it is not built
+-- the faults of the faulty forms
+abbrev pub faults_in : List Form → List Fault
+faults_in [] = []
+faults_in (tokens ts ∷ forms) = faults_in forms
+faults_in (faulty fault ∷ forms) = fault ∷ faults_in forms
+
+-- some form is faulty
+abbrev pub HasFaulty : List Form → Type 0
+HasFaulty forms = faults_in forms ≢ []
+
+-- the faults of a source, sorted
 pub data HasFaults (source : List ℕ) (faults : List Fault) : Type 0 where
-  blank : IsBlank source → faults ≡ at_start 308 [] ∷ [] → HasFaults source faults
+  -- of white space and comments alone: that the module attribute lacks
+  blank : (all : Texts) → Scans all 0 source [] → faults ≡ at_start 308 [] ∷ [] → HasFaults source faults
+  -- where some form is faulty: those of the faulty forms, and no others
+  faulty_forms : (all : Texts) (forms : List Form) → Scans all 0 source forms → HasFaulty forms → faults ≡ set_of (faults_in forms) → HasFaults source faults
+  -- of a module: those of its functions
   of_module : (all : Texts) (m : ModuleTree) → IsSource all source m → faults ≡ set_of (module_faults all m) → HasFaults source faults
-  not_built : (IsBlank source → ⊥) → ((all : Texts) (m : ModuleTree) → IsSource all source m → ⊥) → faults ≡ at_start 500 [] ∷ []
-      → HasFaults source faults
+  -- of other forms, of which none is faulty: that they are not built
+  not_built : (all : Texts) (form : List Token) (forms : List (List Token)) → ScansTo all 0 source (form ∷ forms)
+      → ((names : Texts) (m : ModuleTree) → IsSource names source m → ⊥) → faults ≡ at_start 500 [] ∷ [] → HasFaults source faults
 
 -- a text that may be written for a source; what the text adds to the names of the source stands in a later table
 pub record IsTextFor (source text : List ℕ) : Type 0 where

@@ -1,12 +1,12 @@
 //! The top call: from the words of a command line to the printed faults of a module or to its written text.
 #![tactic(auto)]
 
-mod blank;
 mod buffered;
 mod compiling;
 mod faults;
 mod job;
 mod listing;
+mod named;
 mod refused;
 mod source;
 mod telling;

@@ -52,10 +52,24 @@ fn wording_of(code: u16) -> Wording
     ensures after { result.after.now ≡ (wording code).after }
 {
     let (before, after): (&[u8], &[u8]) = match code {
+        101 => (b"not UTF-8", b""),
+        102 => (b"illegal character", b""),
+        103 => (b"unterminated text", b""),
+        104 => (b"illegal escape", b""),
+        105 => (b"atom too long", b""),
+        106 => (b"illegal base", b""),
+        107 => (b"illegal number", b""),
+        108 => (b"illegal character literal", b""),
+        110 => (b"missing full stop", b""),
+        112 => (b"latin-1 source", b""),
         232 => (b"no file ", b""),
         308 => (b"no module attribute", b""),
         451 => (b"variable ", b" is unbound"),
         500 => (b"not built", b""),
+        501 => (b"float", b""),
+        504 => (b"integer too large", b""),
+        506 => (b"sigil", b""),
+        507 => (b"triple-quoted string", b""),
         601 => (b"file too large", b""),
         _ => (b"", b""),
     };

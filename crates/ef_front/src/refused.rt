@@ -27,7 +27,7 @@ pub fn too_large(alloc: Global) -> Result<FaultList, NoMemory>
     Ok(faults)
 }
 
-/// The one fault of a file of white space alone.
+/// The one fault of a file of white space and comments alone.
 pub fn blank(alloc: Global) -> Result<FaultList, NoMemory>
     ensures { IfOk result (λ faults. faults ≡ fault_at_start 308 [] ∷ []) }
 {

@@ -1,6 +1,7 @@
 // From a source to its module in Core, or to its faults.
-ghost use Rattle.std.specs.Prelude.{◌≡◌, ◌≤◌, IfOk, length};
+ghost use Rattle.std.specs.Prelude.{◌≡◌, ◌≤◌, List, [], ◌∷◌, ◌++◌, IfOk, OnOk, length};
 ghost use Rattle.ef_token.specs.TokenForm.{AllTokensOf, AreForms};
+ghost use Rattle.ef_token.specs.declared.token.ScannedForm.{ScannedForm as TheForm};
 ghost use Rattle.ef_forms.specs.Built.{Each, functions_in};
 ghost use Rattle.ef_forms.specs.OfTable.{ModuleOf};
 ghost use Rattle.ef_forms.specs.Plain.{plain_module};
@@ -10,11 +11,11 @@ ghost use Rattle.ef_front.specs.Compiles.{AreTaken, IsCompiledForms, IsCompiledM
 ghost use Rattle.ef_front.specs.Input.{limit};
 ghost use Rattle.ef_front.specs.Runs.{IsCompiledText};
 
-use crate::blank::is_blank;
 use crate::compiling::{Compiled, Lowered};
 use crate::faults::rule_faults;
+use crate::named::are_named;
 use crate::refused::{blank, not_built};
-use ef_base::{Names, NoMemory};
+use ef_base::{FaultList, Names, NoMemory};
 use ef_forms::Module;
 use ef_lowmod::lower;
 use ef_module::{FormRefusal, module};
@@ -31,37 +32,52 @@ pub fn compile_text(alloc: Global, source: &[u8]) -> Result<Compiled, NoMemory>
     requires { length source.now ≤ limit }
     ensures { IfOk result (IsCompiledText source.now) }
 {
-    if is_blank(source) {
-        return Ok(Compiled::Faulty(blank(alloc)?));
-    }
     let mut names = Names::new(alloc);
     let scanned = scan(alloc, &mut names, source, 0)?;
+    if scanned.is_empty() {
+        return Ok(Compiled::Faulty(blank(alloc)?));
+    }
     let taken = take_forms(alloc, scanned)?;
-    if taken.is_foreign {
+    if !taken.faults.faults().is_empty() {
+        return Ok(Compiled::Faulty(taken.faults));
+    }
+    if !are_named(&names, &taken.forms) {
         return Ok(Compiled::Faulty(not_built(alloc)?));
     }
     compile_forms(alloc, names, taken.forms)
 }
 
-/// The tokens of each form, as far as none is faulty.
+/// The faults of the faulty forms, and the tokens of the others.
 #[derive(Drop)]
 struct Taken {
-    is_foreign: bool,
+    faults: FaultList,
     forms: Vec<Vec<Token>>,
 }
 
 fn take_forms(alloc: Global, scanned: Vec<ScannedForm>) -> Result<Taken, NoMemory>
-    ensures { IfOk result (λ taken. AreTaken scanned.items taken.is_foreign (lists taken.forms.items)) }
+    ensures { IfOk result (λ taken. AreTaken scanned.items taken.faults (lists taken.forms.items)) }
 {
-    let mut forms = Vec::new(alloc);
-    let mut is_foreign = false;
+    let mut taken = Taken {
+        faults: FaultList::new(alloc),
+        forms: Vec::new(alloc),
+    };
     for form in scanned {
-        match form {
-            ScannedForm::Tokens(tokens) => forms.push(tokens)?,
-            ScannedForm::Faulty(_) => is_foreign = true,
-        }
+        taken.add(form)?;
     }
-    Ok(Taken { is_foreign, forms })
+    Ok(taken)
+}
+
+impl Taken {
+    // One more form.
+    fn add(&mut self, form: ScannedForm) -> Result<(), NoMemory>
+        ensures { OnOk result ((before : List TheForm) → AreTaken before self.old.faults (lists self.old.forms.items) → AreTaken (before ++ form ∷ []) self.new.faults (lists self.new.forms.items)) }
+    {
+        match form {
+            ScannedForm::Tokens(tokens) => self.forms.push(tokens)?,
+            ScannedForm::Faulty(fault) => self.faults.push(fault)?,
+        }
+        Ok(())
+    }
 }
 
 fn compile_forms(

@@ -25,6 +25,7 @@ const FILES: &[(&str, &str)] = &[
     ("blank.erl", " \t\r\n\0\u{80}\u{a0}"),
     ("empty", ""),
     ("-", "\n"),
+    ("comments", "% a\n\t%% f() -> 'a.\n % ^ $"),
 ];
 
 const CASES: &[Case] = &[
@@ -55,6 +56,13 @@ const CASES: &[Case] = &[
         failing: [0, 0, 0],
         status: Status::Faults,
         printed: "large:1:1: E308: no module attribute\nlarge:1:1: E601: file too large\n",
+        created: None,
+    },
+    Case {
+        words: &["comments"],
+        failing: [0, 0, 0],
+        status: Status::Faults,
+        printed: "comments:1:1: E308: no module attribute\n",
         created: None,
     },
     // Words.

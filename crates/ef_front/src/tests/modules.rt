@@ -116,6 +116,18 @@ call 'g':'h'(_0, _1, _2)
 end
 ",
     ),
+    // Quoted atoms, letters of Latin-1, numbers in other bases, and comments.
+    (
+        "% -*- coding: utf-8 -*-\n-module('a').\n-export([f/1, '_'/0]). % f(X) -> Y.\n%% 'a\nf(\u{c4}) -> g:'hello world'(\u{c4}, \u{e4}, '\\x{20ac}', 16#fF, 1_000,\n  % $\n  2#1_01, 'f', '\\'').\n'_'() -> '\\^a'. % the end",
+        "module 'a' ['f'/1, '_'/0, 'module_info'/0, 'module_info'/1]
+attributes []
+'f'/1 = fun (_0) -> call 'g':'hello world'(_0, '\\x{e4}', '\\x{20ac}', 255, 1000, 5, 'f', '\\'')
+'_'/0 = fun () -> '\\x{1}'
+'module_info'/0 = fun () -> call 'erlang':'get_module_info'('a')
+'module_info'/1 = fun (_0) -> call 'erlang':'get_module_info'('a', _0)
+end
+",
+    ),
 ];
 
 #[test]
@@ -167,10 +179,12 @@ const MODULES: &[(&str, &str)] = &[
         "",
     ),
     ("-module(r).\n-export([f/1]).\nf(X) -> {X}.\n", NOT_BUILT),
-    ("-module(r).\n-export([f/0]).\nf() -> 1.5.\n", NOT_BUILT),
     ("-module(r).\n-export([f/0]).\nf() -> #{}.\n", NOT_BUILT),
-    ("-module(r).\n-export([f/0]).\nf() -> 'a'.\n", NOT_BUILT),
-    ("-module(r).\n-export([f/0]).\nf() -> a", NOT_BUILT),
+    ("-module(r).\n-export([f/0]).\nf() -> $a.\n", NOT_BUILT),
+    ("-module(r).\n-export([f/0]).\nf() -> \"a\".\n", NOT_BUILT),
+    ("-module(r).\n-export([f/1]).\nf(_) -> a.\n", NOT_BUILT),
+    ("-module(r).\n-export([f/0]).\nf() -> _.\n", NOT_BUILT),
+    (".", NOT_BUILT),
     ("-module(r).\n-export([f/2]).\nf(X, X) -> X.\n", NOT_BUILT),
     ("-module(r).\n-export([f/0]).\nf() -> k().\n", NOT_BUILT),
     ("-module(r).\n-export([f/0, f/0]).\nf() -> a.\n", NOT_BUILT),
@@ -195,12 +209,7 @@ fn faults(rt: HostRuntime) -> Result<(), Fail> {
     for (source, printed) in MODULES {
         check(&rt, alloc, bytes(alloc, source)?, printed)?;
     }
-    check(
-        &rt,
-        alloc,
-        Bytes::from_vec(b"-module(\xff)."[..].to_vec(alloc)?),
-        NOT_BUILT,
-    )
+    Ok(())
 }
 
 // Calls inside calls: a variable has nesting 1, and a call without arguments 2.
@@ -299,4 +308,67 @@ fn is_front(output: &MemoryOutput) -> bool {
     path == "a.core".as_bytes()
         && text.len() < IDENTITY_TEXT.len()
         && IDENTITY_TEXT.as_bytes().starts_with(text)
+}
+
+// Texts, and the lines of their faulty forms, which stand alone.
+const FAULTY: &[(&str, &str)] = &[
+    (
+        "-module(r).\n-export([f/1).\n'\\xg'. f(X) -> Y.\n",
+        "r.erl:3:1: E104: illegal escape\n",
+    ),
+    (
+        "-module(r).\n-export([f/1]).\nf(X) -> ^. a b ~.5, 'c'.\n \u{20ac} '.\n",
+        "r.erl:3:9: E102: illegal character\nr.erl:3:16: E506: sigil\nr.erl:4:2: E102: illegal character\n",
+    ),
+    (
+        "-module(r).\n-export([f/0]).\nf() -> 1.5.\n",
+        "r.erl:3:8: E501: float\n",
+    ),
+    (
+        "-module(r).\n-export([f/0]).\nf() -> 'a.\n",
+        "r.erl:3:8: E103: unterminated text\n",
+    ),
+    (
+        "a() -> 1#0. b() -> 16#. $",
+        "r.erl:1:8: E106: illegal base\nr.erl:1:20: E107: illegal number\nr.erl:1:25: E108: illegal character literal\n",
+    ),
+    (
+        "f() -> 16#80000000000000000000000000000000.",
+        "r.erl:1:8: E504: integer too large\n",
+    ),
+    (
+        "f() -> \"\"\"a\"\"\".",
+        "r.erl:1:8: E507: triple-quoted string\n",
+    ),
+    ("f(X) -> Y", "r.erl:1:1: E110: missing full stop\n"),
+    (
+        "\n % coding: Latin-1\nf(X) -> Y. ^",
+        "r.erl:2:2: E112: latin-1 source\n",
+    ),
+    ("% coding: latin-1", "r.erl:1:1: E112: latin-1 source\n"),
+    (
+        "\n\n% coding: latin-1",
+        "r.erl:1:1: E308: no module attribute\n",
+    ),
+];
+
+#[test]
+fn faulty_forms(rt: HostRuntime) -> Result<(), Fail> {
+    let alloc = rt.alloc();
+    for (source, printed) in FAULTY {
+        check(&rt, alloc, bytes(alloc, source)?, printed)?;
+    }
+    let not_utf8 = Bytes::from_vec(b"-module(r).\n^ \xc3\xa4\xff."[..].to_vec(alloc)?);
+    check(&rt, alloc, not_utf8, "r.erl:2:4: E101: not UTF-8\n")?;
+    let mut long = Vec::new(alloc);
+    for _ in 0..256 {
+        long.push(b'a')?;
+    }
+    long.push(b'.')?;
+    check(
+        &rt,
+        alloc,
+        Bytes::from_vec(long),
+        "r.erl:1:1: E105: atom too long\n",
+    )
 }

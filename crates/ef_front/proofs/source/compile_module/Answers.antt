@@ -1,7 +1,8 @@
 use Rattle.std.proofs.Common.{sym, ◌∙◌}
 use Rattle.ef_base.specs.Laws.{extends_same}
 use Rattle.ef_forms.specs.Plain.{plain_module}
-use Rattle.ef_front.proofs.Chain.{empty_list, no_faults, not_that}
+use Rattle.ef_front.proofs.Chain.{no_faults, not_that}
+use Rattle.ef_front.proofs.Taken.{empty_list}
 use Rattle.ef_front.proofs.source.compile_module.Goals as goal
 
 pub returns-then-not-branch : goal.returns-then-not-branch

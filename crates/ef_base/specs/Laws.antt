@@ -1,10 +1,13 @@
 -- Laws of tables of names and of sets of faults, for the crates above.
-use Rattle.std.specs.Prelude.{ℕ, ◌<◌, ◌≡◌, List, [], ◌++◌, length, slice_get, Some, get_or}
-use Rattle.std.proofs.Common.{ap, ◌∙◌, sym, arith, subst, append_assoc, append-nil, length-append}
+use Rattle.std.specs.Prelude.{ℕ, suc, ◌<◌, ◌≡◌, ◌≢◌, true, false, ◌||◌, List, [], ◌∷◌, ◌++◌, length, slice_get, Some, get_or, slice_index_or}
+use Rattle.std.specs.List.{All, list_any}
+use Rattle.std.specs.Str.{bytes_eq}
+use Rattle.std.proofs.Common.{refl, ap, ◌∙◌, sym, arith, subst, append_assoc, append-nil, length-append}
 use Rattle.std.proofs.lemmas.Option.{slice_get_within, slice_get-get_or, get_or_from_slice_get}
 use Rattle.std.proofs.lemmas.List.{get_or_append_left}
+use Rattle.std.proofs.lemmas.Slice.Eq.{bytes_eq-Decides}
 use Rattle.ef_base.specs.declared.name.Name.{Name}
-use Rattle.ef_base.specs.Texts.{Texts, AllDiffer, Extends, HasName, IsNameOf}
+use Rattle.ef_base.specs.Texts.{Texts, AllDiffer, Extends, HasName, HasText, IsNameOf, IsFresh, text}
 
 -- a table is a later one of itself
 pub extends_same : (now : Texts) → Extends now now
@@ -38,3 +41,26 @@ pub same_name : (all : Texts) (a b : Name) (bytes : List ℕ) → AllDiffer all 
 same_name all a b bytes differ at_a at_b =
     let i : a.index ≡ b.index = differ a.index b.index bytes (slice_get-get_or all a.index [] at_a.within ∙ ap Some at_a.is) (slice_get-get_or all b.index [] at_b.within ∙ ap Some at_b.is) in
     ap (λ (n : ℕ). let name : Name = record { index = n } in name) i
+
+-- a text of a table is one of a later table
+pub text_stays : (now all : Texts) (bytes : List ℕ) → HasText now bytes → Extends now all → HasText all bytes
+text_stays now all bytes has later = (has.0, named_later now all has.0 bytes has.1 later)
+
+pub texts_stay : (now all : Texts) (words : List (List ℕ)) → All (HasText now) words → Extends now all → All (HasText all) words
+texts_stay now all words has later k d within = text_stays now all (slice_index_or words k d) (has k d within) later
+
+-- each of several texts, which a test finds among them
+pub text_among : (texts : Texts) (words : List (List ℕ)) (word : List ℕ) → All (HasText texts) words → list_any (λ w. bytes_eq w word) words ≡ true → HasText texts word
+text_among texts [] word all found = absurd (cc)
+text_among texts (w ∷ words) word all found =
+    elim (bytes_eq w word) as (λ b. bytes_eq w word ≡ b → (b || list_any (λ v. bytes_eq v word) words) ≡ true → HasText texts word) [
+      | true ↦ λ yes _. subst (HasText texts) ((bytes_eq-Decides w word).0 yes) (all 0 w (omega arith))
+      | false ↦ λ _ more. text_among texts words word (λ k d within. all (suc k) d (omega arith)) more
+    ] refl found
+
+-- a fresh name is none of the old table
+pub fresh_differs : (old new : Texts) (name other : Name) → IsFresh old new name → Extends old new → HasName old other → other ≢ name
+fresh_differs old new name other fresh later within same =
+    let at : IsNameOf old other (text old other) = record { within = within; is = refl } in
+    let is : text old other ≡ text new name = sym ((named_later old new other (text old other) at later).is) ∙ ap (text new) same in
+    fresh.absent other.index (slice_get-get_or old other.index [] within ∙ ap Some is)

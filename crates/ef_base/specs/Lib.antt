@@ -1,6 +1,7 @@
 pub mod Order
 pub mod Faults
 pub mod Texts
+pub mod Words
 pub mod Laws
 pub mod Positions
 pub mod Cut

@@ -40,3 +40,12 @@ AllUtf8 texts = (name : Name) → HasName texts name → IsUtf8 (text texts name
 pub record IsNameOf (texts : Texts) (name : Name) (bytes : List ℕ) : Type 0 where
   pub within : HasName texts name
   pub is : text texts name ≡ bytes
+
+-- the table has the text
+abbrev pub HasText : Texts → List ℕ → Type 0
+HasText texts bytes = (name : Name) × IsNameOf texts name bytes
+
+-- the name is one of the new table, and the old one did not have its text
+pub record IsFresh (old new : Texts) (name : Name) : Type 0 where
+  pub within : HasName new name
+  pub absent : IsAbsent (text new name) old

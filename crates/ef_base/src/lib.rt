@@ -7,6 +7,7 @@ mod fault_list;
 mod memory;
 mod name;
 mod names;
+mod words;
 
 pub use bytes::{Bytes, Chars};
 pub use fault::{Fault, Place, Refusal};

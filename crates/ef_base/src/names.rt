@@ -1,7 +1,12 @@
 // The table of names, each for one text.
-ghost use Rattle.std.specs.Prelude.{◌≡◌, [], IfSome, IfNone, IfOk, OnOk, OnErr};
-ghost use Rattle.ef_base.specs.Texts.{AllDiffer, AllUtf8, Extends, Gains, HasName, IsAbsent, IsNameOf, Texts};
+ghost use Rattle.std.specs.Prelude.{◌≡◌, ◌≤◌, ◌++◌, ◌∷◌, [], ℕ, List, length, map, string_bytes, IfSome, IfNone, IfOk, OnOk, OnErr};
+ghost use Rattle.std.specs.Borrow.{Bor};
+ghost use Rattle.std.specs.List.{All};
+ghost use Rattle.std.specs.Str.{IsAscii};
+ghost use Rattle.ef_base.specs.Texts.{AllDiffer, AllUtf8, Extends, Gains, HasName, HasText, IsAbsent, IsFresh, IsNameOf, Texts, text};
+ghost use Rattle.ef_base.specs.Words.{fixed_words};
 
+use crate::words::FIXED_WORDS;
 use crate::{Name, NoMemory};
 use indexmap::IndexSet;
 use std::alloc::Global;
@@ -72,4 +77,59 @@ impl Names {
         let (index, _) = self.texts.insert_full(kept)?;
         Ok(Name { index })
     }
+
+    /// Puts the fixed words into the table, which after `NoMemory` may have gained some of them.
+    pub fn keep_words(&mut self) -> Result<(), NoMemory>
+        ensures held { OnOk result (All (HasText self.new) fixed_words) }
+        ensures kept { Extends self.old self.new }
+        ensures differ { AllDiffer self.new }
+        ensures utf8 { AllUtf8 self.new }
+    {
+        self.intern_all(&FIXED_WORDS)
+    }
+
+    fn intern_all(&mut self, texts: &[&str]) -> Result<(), NoMemory>
+        ensures held { OnOk result (All (HasText self.new) (map (λ (t : Bor (List ℕ)). t.now) texts.now)) }
+        ensures kept { Extends self.old self.new }
+        ensures differ { AllDiffer self.new }
+        ensures utf8 { AllUtf8 self.new }
+    {
+        self.texts.reserve(texts.len())?;
+        for text in texts {
+            self.intern(text)?;
+        }
+        Ok(())
+    }
+
+    /// A new name, whose text the table did not hold.
+    pub fn fresh(&mut self) -> Result<Name, NoMemory>
+        ensures fresh { IfOk result (IsFresh self.old self.new) }
+        ensures short { IfOk result (λ name. length (text self.new name) ≤ 40) }
+        ensures ascii { IfOk result (λ name. IsAscii (text self.new name)) }
+        ensures table { IfOk result (λ name. self.new ≡ self.old ++ text self.new name ∷ []) }
+        ensures kept { Extends self.old self.new }
+        ensures differ { AllDiffer self.new }
+        ensures utf8 { AllUtf8 self.new }
+        ensures stays { OnErr result (self.new ≡ self.old) }
+    {
+        let text = unused_text(self.alloc, self)?;
+        self.intern(&text)
+    }
+}
+
+// A text that the table does not hold. Of one text more than there are names, not all are held; mostly the first is not,
+// since each fresh name raises the count with which the numbers begin.
+fn unused_text(alloc: Global, names: &Names) -> Result<String, NoMemory>
+    ensures absent { IfOk result (λ t. IsAbsent (string_bytes t) names.now) }
+    ensures short { IfOk result (λ t. length (string_bytes t) ≤ 40) }
+    ensures ascii { IfOk result (λ t. IsAscii (string_bytes t)) }
+{
+    let count = names.texts.len();
+    for number in count..2 * count + 1 {
+        let text = format!(in alloc; "-{number}")?;
+        let Some(_) = names.find(&text) else {
+            return Ok(text);
+        };
+    }
+    unreachable!()
 }

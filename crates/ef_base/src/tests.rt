@@ -18,6 +18,46 @@ fn equal_texts_have_equal_names(rt: HostRuntime) -> Result<(), Fail> {
 }
 
 #[test]
+fn fixed_words_are_kept(rt: HostRuntime) -> Result<(), Fail> {
+    let mut names = Names::new(rt.alloc());
+    let a = names.intern("a")?;
+    names.keep_words()?;
+    for word in [
+        "badmatch",
+        "throw",
+        "=:=",
+        "module_info",
+        "whereis",
+        "!",
+        "make_fun",
+        "little",
+    ] {
+        assert!(rt; names.find(word).is_some(), "{word}");
+    }
+    assert!(rt;
+        names.find("case").is_none(),
+        "a reserved word is no fixed word"
+    );
+    assert_eq!(rt; names.text(a), "a");
+    Ok(())
+}
+
+#[test]
+fn fresh_names_are_new(rt: HostRuntime) -> Result<(), Fail> {
+    let mut names = Names::new(rt.alloc());
+    let first = names.fresh()?;
+    let second = names.fresh()?;
+    assert!(rt; first != second);
+    assert!(rt; names.text(first) != names.text(second));
+    // The table holds the next text to be tried.
+    let held = names.intern("-3")?;
+    let third = names.fresh()?;
+    assert!(rt; third != held);
+    assert_eq!(rt; names.text(third), "-4");
+    Ok(())
+}
+
+#[test]
 fn faults_are_a_sorted_set(rt: HostRuntime) -> Result<(), Fail> {
     let mut list = FaultList::new(rt.alloc());
     for (line, code) in [(3, 451), (1, 500), (3, 451), (3, 308)] {

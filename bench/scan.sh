@@ -1,8 +1,8 @@
 #!/usr/bin/env bash
 # Makes a file of mixed Erlang source and files of one character each, all of 4 MiB, and times how long the proved program
 # takes over each: the best of some runs, the bytes a second, and the time beside that of the mixed file. Each file has a
-# faulty form, so the program reads and scans it, prints its faults and does no more. Words: a folder for the files (a
-# temporary one by default), and another program.
+# faulty form or none at all, so the program reads and scans it, prints its faults and does no more. Words: a folder for
+# the files (a temporary one by default), and another program.
 set -eu
 top=$(dirname "$(dirname "$(readlink -f "$0")")")
 folder=${1:-$(mktemp -d)}
@@ -73,7 +73,7 @@ files = {
     "double_quotes": b'"' * size,
     "backslashes": b"\\" * size,
     "digits": b"7" * size,
-    "percents": b"~" + b"%" * (size - 1),
+    "percents": b"%" * size,
     "dollars": b"$" * size,
     "dots": b"." * size,
     "quoted_backslashes": b'"' + b"\\" * (size - 2) + b'"',

@@ -1,20 +1,21 @@
 -- Steps of a cursor.
 use Rattle.std.proofs.Common.{ℕ, ◌+◌, ◌-◌, ◌<◌, ◌≤◌, ◌≡◌, Bool, true, false, List, [], ◌∷◌, ◌++◌, length, take, drop, chars, get_or, zero, suc, arith, refl, subst, sym, ap, ◌∙◌, append_assoc, append-nil, length-append, length-drop}
-use Rattle.std.specs.Prelude.{IsUtf8, ◌==◌, encode_utf8, encode_utf8_all}
+use Rattle.std.specs.Prelude.{IsUtf8, ◌==◌, ◌&&◌, encode_utf8, encode_utf8_all}
 use Rattle.std.specs.Char.{len_utf8}
 use Rattle.std.specs.Str.{IsAscii, IsCharBoundary}
 use Rattle.std.proofs.lemmas.Bool.Decides.{nat_tests}
 use Rattle.std.proofs.lemmas.List.{take-append-drop, take_more, length-take-le}
-use Rattle.std.proofs.Math.Seq.{take-append_seam}
+use Rattle.std.proofs.Math.Seq.{take-append_seam, drop-cons}
 use Rattle.std.proofs.lemmas.Str.{chars_past_char, IsUtf8-past_char, length-encode, len_utf8_bounds, length-le-encodes, encodes-append, encodes-IsAscii, IsCharBoundary-at_seam, encode_ascii}
 use Rattle.ef_base.specs.Characters.{Each, Stops}
 use Rattle.ef_base.specs.Positions.{Position, next_position, position_after}
 use Rattle.ef_base.proofs.CutLaws.{position_after-append}
+use Rattle.ef_scan.specs.declared.class.Class.{Class}
 use Rattle.ef_scan.specs.declared.cursor.Cursor.{Cursor}
 use Rattle.ef_token.specs.Letters.{is_printing}
 use Rattle.ef_token.proofs.Lexemes.{each_append}
 use Rattle.ef_token.proofs.Plain.{each_weaker}
-use Rattle.ef_scan.specs.Cursors.{IsInText, IsStep, IsBehind, IsRun, is_plain, position_of}
+use Rattle.ef_scan.specs.Cursors.{IsInText, IsStep, IsBehind, IsRun, is_plain, is_plain_of, position_of, test_of}
 
 -- behind a character at the front of a text
 pub past_char : (text rest : List ℕ) (c : ℕ) → text ≡ encode_utf8 c ++ rest → length rest < length text
@@ -71,6 +72,18 @@ behind_room first second front h =
 
 -- ---- runs
 
+pub each_both : (p q : ℕ → Bool) (cs : List ℕ) → Each (λ c. p c && q c) cs → Each p cs × Each q cs
+each_both p q [] h = (tt, tt)
+each_both p q (c ∷ cs) h = let b = both (p c) (q c) h.0 in let on = each_both p q cs h.1 in ((b.0, on.0), (b.1, on.1))
+  where
+    both : (a b : Bool) → (a && b) ≡ true → (a ≡ true) × (b ≡ true)
+    both true true e = (refl, refl)
+    both true false e = cc e
+    both false b e = cc e
+
+pub stops_at : (p : ℕ → Bool) (bytes : List ℕ) (n : ℕ) → n < length bytes → p (get_or bytes n 0) ≡ false → Stops p (drop n bytes)
+stops_at p bytes n l h = subst (Stops p) (sym (drop-cons bytes n 0 l)) h
+
 pub each_take_more : (p : ℕ → Bool) (bytes : List ℕ) (n : ℕ) → n < length bytes → Each p (take n bytes) → p (get_or bytes n 0) ≡ true → Each p (take (n + 1) bytes)
 each_take_more p bytes n l h k = subst (Each p) (sym (take_more bytes n 0 l)) (each_append p (take n bytes) (get_or bytes n 0 ∷ []) h (k, tt))
 
@@ -93,16 +106,16 @@ runs_more p first second third count h k = record {
 }
 
 -- and so many bytes further
-pub runs_wide : (p : ℕ → Bool) (first second third : Cursor) (bytes : List ℕ) (count width : ℕ) → RunsTo p first second count → bytes ≡ second.rest.now → width ≤ length bytes
-    → Each p (take width bytes) → IsBehind second third (take width second.rest.now) → RunsTo p first third (count + width)
-runs_wide p first second third bytes count width h is within each k =
+pub runs_wide : (class : Class) (first second third : Cursor) (bytes : List ℕ) (count width : ℕ) → RunsTo (test_of class) first second count → bytes ≡ second.rest.now → width ≤ length bytes
+    → Each (is_plain_of class) (take width bytes) → IsBehind second third (take width second.rest.now) → RunsTo (test_of class) first third (count + width)
+runs_wide class first second third bytes count width h is within each k =
     let front : List ℕ = take width bytes in
     let same : take width second.rest.now ≡ take width bytes = ap (take width) (sym is) in
     let long : length (take width bytes) ≡ width = length-take-le width bytes within in
     record {
       front = h.front ++ take width bytes;
       behind = behind_all first second third h.front front h.behind (subst (IsBehind second third) same k);
-      each = each_append p h.front front h.each each;
+      each = each_append (test_of class) h.front front h.each (each_both is_plain (test_of class) front each).1;
       counted = let e = h.counted in let l = length-append h.front front in omega arith;
     }
 

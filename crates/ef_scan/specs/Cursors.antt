@@ -1,5 +1,5 @@
 -- Where the scanner stands in a text, and what it has behind it.
-use Rattle.std.specs.Prelude.{ℕ, ◌+◌, ◌^◌, ◌≤◌, ◌≡◌, ◌==◌, ◌||◌, Bool, not, List, ◌∷◌, ◌++◌, length, chars, IsUtf8, encode_utf8, encode_utf8_all}
+use Rattle.std.specs.Prelude.{ℕ, ◌+◌, ◌^◌, ◌≤◌, ◌≡◌, ◌==◌, ◌||◌, ◌&&◌, Bool, not, List, ◌∷◌, ◌++◌, length, chars, IsUtf8, encode_utf8, encode_utf8_all}
 use Rattle.ef_base.specs.Characters.{Each, Stops, is_within, is_white}
 use Rattle.ef_base.specs.Positions.{Position, next_position, position_after}
 use Rattle.ef_token.specs.Letters.{continues_name}
@@ -18,6 +18,10 @@ test_of (class.Inside quote) c = not (c == quote || c == 92)
 -- the characters of ASCII that end no line
 abbrev pub is_plain : ℕ → Bool
 is_plain c = is_within 0 9 c || is_within 11 127 c
+
+-- a plain character of the class
+abbrev pub is_plain_of : Class → ℕ → Bool
+is_plain_of class c = is_plain c && test_of class c
 
 abbrev pub position_of : Cursor → Position
 position_of c = record { line = c.line; column = c.column }

@@ -1,8 +1,8 @@
 // Classes of characters.
-ghost use Rattle.std.specs.Prelude.{◌≡◌, ◌≤◌, IsTrue, length, take, true};
+ghost use Rattle.std.specs.Prelude.{◌≡◌, ◌≤◌, length, take, drop};
 ghost use Rattle.ef_base.specs.Characters as characters;
-ghost use Rattle.ef_base.specs.Characters.{Each};
-ghost use Rattle.ef_scan.specs.Cursors.{is_plain, test_of};
+ghost use Rattle.ef_base.specs.Characters.{Each, Stops};
+ghost use Rattle.ef_scan.specs.Cursors.{is_plain_of, test_of};
 
 use ef_token::continues_name;
 
@@ -31,19 +31,22 @@ impl Class {
     }
 
     fn has_plain(self, byte: u8) -> bool
-        ensures { IsTrue result → (is_plain byte ≡ true) × (test_of self byte ≡ true) }
+        ensures { result ≡ is_plain_of self byte }
     {
         byte < 128 && byte != b'\n' && self.has(byte as char)
     }
 
-    /// How many characters of the class stand in front that are ASCII and end no line, at least as far as their bytes tell.
+    /// How many characters of the class that are ASCII and end no line are in front.
     pub(crate) fn plain_width(self, bytes: &[u8]) -> usize
         ensures within { result ≤ length bytes.now }
-        ensures plain { Each is_plain (take result bytes.now) }
-        ensures each { Each (test_of self) (take result bytes.now) }
+        ensures each { Each (is_plain_of self) (take result bytes.now) }
+        ensures stops { Stops (is_plain_of self) (drop result bytes.now) }
     {
         let mut width = 0;
-        while width < bytes.len() && self.has_plain(bytes[width]) {
+        while let Some(byte) = bytes.get(width) {
+            if !self.has_plain(*byte) {
+                return width;
+            }
             width += 1;
         }
         width

@@ -62,6 +62,7 @@ impl<'a> Cursor<'a> {
     }
 
     /// Behind as many characters of the class as there are.
+    #[inline(always)]
     pub(crate) fn run(self, class: Class) -> Run<'a>
         requires { IsInText self }
         ensures { IsRun (test_of class) self.entry result.behind result.count }

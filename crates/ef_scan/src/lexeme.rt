@@ -39,6 +39,12 @@ pub(crate) fn lexeme<'a>(
     requires no_gap { letters.begins_gap first ≡ false }
     ensures { IfOk result (λ verdict. IsVerdict at.entry verdict) }
 {
+    if begins_atom(first) {
+        return Ok(atom(at, at.run(Class::Name)));
+    }
+    if begins_variable(first) {
+        return Ok(variable(at, at.run(Class::Name)));
+    }
     if first == '\'' {
         return quoted_atom(alloc, at, behind);
     }
@@ -47,12 +53,6 @@ pub(crate) fn lexeme<'a>(
     }
     if first == '$' {
         return Ok(character(at, behind));
-    }
-    if begins_atom(first) {
-        return Ok(atom(at, at.run(Class::Name)));
-    }
-    if begins_variable(first) {
-        return Ok(variable(at, at.run(Class::Name)));
     }
     if let Some(number) = numeral(at, 10) {
         return Ok(integer(number));

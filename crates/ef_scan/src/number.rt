@@ -69,6 +69,7 @@ fn with_digit(value: Option<u128>, base: u32, digit: u32) -> Option<u128>
 }
 
 /// The longest numeral to the base at a place.
+#[inline(always)]
 pub(crate) fn numeral<'a>(at: Cursor<'a>, base: u32) -> Option<Number<'a>>
     requires least { 2 ≤ base }
     requires most { base ≤ 36 }
@@ -81,6 +82,7 @@ pub(crate) fn numeral<'a>(at: Cursor<'a>, base: u32) -> Option<Number<'a>>
 }
 
 // The digits behind the first one.
+#[inline(never)]
 fn digits_behind<'a>(first: u32, at: Cursor<'a>, base: u32) -> Number<'a>
     requires least { 2 ≤ base }
     requires most { base ≤ 36 }

@@ -21,6 +21,7 @@ pub(crate) enum Inner<'a> {
 }
 
 /// The text behind an opening quote.
+#[inline(always)]
 pub(crate) fn inner_text<'a>(
     alloc: Global,
     at: Cursor<'a>,
@@ -38,6 +39,7 @@ pub(crate) fn inner_text<'a>(
 }
 
 // The same where escapes are among the characters.
+#[inline(never)]
 fn escaped_text<'a>(alloc: Global, at: Cursor<'a>, quote: char) -> Result<Inner<'a>, NoMemory>
     requires in_text { IsInText at }
     requires is_quote { is_quote quote ≡ true }

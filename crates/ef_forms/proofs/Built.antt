@@ -5,9 +5,9 @@ use Rattle.ef_base.specs.Texts.{Texts, Extends, HasName, IsNameOf, text}
 use Rattle.ef_base.specs.Laws.{named_later}
 use Rattle.ef_forms.specs.declared.form.FunctionRef.{FunctionRef}
 use Rattle.ef_forms.specs.declared.tables.FunctionName.{FunctionName}
-use Rattle.ef_forms.specs.Tree.{Tree, Trees, Clauses, FunctionTree, FormTree, PlacedTree, ModuleTree, tree, int, atom, var, call, remote, end, more, no_guard, or_guard, no_clauses, clause, module_name, export, function, count}
+use Rattle.ef_forms.specs.Tree.{Tree, Trees, Clauses, FunctionTree, FormTree, PlacedTree, ModuleTree, tree, int, atom, var, any, list, list_to, tuple, matching, call, remote, end, more, no_guard, or_guard, no_clauses, clause, module_name, export, function, count}
 use Rattle.ef_forms.specs.OfTable.{TreeOf, TreesOf, ClausesOf, FunctionOf, ReferencesOf, FormOf, FormsOf, ModuleOf}
-use Rattle.ef_forms.specs.Built.{IsDefined, IsModuleInfo, IsCallOf, IsForeignModule, IsBuiltTree, AreBuilt, IsBuiltClauses, IsBuiltFunction, IsBuilt, Each, exports_in, exports_of, functions_in, functions_of, defined_in, name_of}
+use Rattle.ef_forms.specs.Built.{IsDefined, IsModuleInfo, IsCallOf, IsForeignModule, IsBuiltTree, AreBuilt, AreBuiltClauses, IsBuiltFunction, IsBuilt, Each, exports_in, exports_of, functions_in, functions_of, defined_in, name_of}
 
 -- the text of a name of the table stays
 pub text_later : (now all : Texts) (n : Name) → HasName now n → Extends now all → text all n ≡ text now n
@@ -31,6 +31,11 @@ module _ (now a b : Texts) (agree : Agree now a b) where
   call_same defined (tree p (atom n)) k of is = defined_same defined (record { name = n; arity = k }) of is
   call_same defined (tree p (int i)) k of is = is
   call_same defined (tree p (var n)) k of is = is
+  call_same defined (tree p any) k of is = is
+  call_same defined (tree p (list es)) k of is = is
+  call_same defined (tree p (list_to es e)) k of is = is
+  call_same defined (tree p (tuple es)) k of is = is
+  call_same defined (tree p (matching q e)) k of is = is
   call_same defined (tree p (call f es)) k of is = is
   call_same defined (tree p (remote m f es)) k of is = is
 
@@ -38,6 +43,11 @@ module _ (now a b : Texts) (agree : Agree now a b) where
   foreign_same (tree p (atom n)) of is = λ same. is (agree n of ∙ same)
   foreign_same (tree p (int i)) of is = is
   foreign_same (tree p (var n)) of is = is
+  foreign_same (tree p any) of is = is
+  foreign_same (tree p (list es)) of is = is
+  foreign_same (tree p (list_to es e)) of is = is
+  foreign_same (tree p (tuple es)) of is = is
+  foreign_same (tree p (matching q e)) of is = is
   foreign_same (tree p (call f es)) of is = is
   foreign_same (tree p (remote m f es)) of is = is
 
@@ -46,6 +56,11 @@ module _ (now a b : Texts) (agree : Agree now a b) where
     tree_same defined (tree p (int i)) of is = is
     tree_same defined (tree p (atom n)) of is = is
     tree_same defined (tree p (var n)) of is = is
+    tree_same defined (tree p any) of is = is
+    tree_same defined (tree p (list es)) of is = trees_same defined es of is
+    tree_same defined (tree p (list_to es e)) of is = (trees_same defined es of.0 is.0, tree_same defined e of.1 is.1)
+    tree_same defined (tree p (tuple es)) of is = trees_same defined es of is
+    tree_same defined (tree p (matching q e)) of is = (is.0, tree_same defined e of.1 is.1)
     tree_same defined (tree p (call f es)) of is = (call_same defined f (count es) of.0 is.0, trees_same defined es of.1 is.1)
     tree_same defined (tree p (remote m f es)) of is = (foreign_same m of.0 is.0, is.1, trees_same defined es of.2 is.2)
 
@@ -53,14 +68,13 @@ module _ (now a b : Texts) (agree : Agree now a b) where
     trees_same defined end of is = is
     trees_same defined (more e es) of is = (tree_same defined e of.0 is.0, trees_same defined es of.1 is.1)
 
-  clauses_same : (defined : List FunctionName) (cs : Clauses) → ClausesOf now cs → IsBuiltClauses a defined cs → IsBuiltClauses b defined cs
-  clauses_same defined no_clauses of is = is
-  clauses_same defined (clause p ps no_guard body no_clauses) of is = (is.0, trees_same defined body of.2 is.1)
-  clauses_same defined (clause p ps no_guard body (clause q qs g es cs)) of is = is
-  clauses_same defined (clause p ps (or_guard es gs) body cs) of is = is
+  clauses_same : (defined : List FunctionName) (arity : ℕ) (cs : Clauses) → ClausesOf now cs → AreBuiltClauses a defined arity cs → AreBuiltClauses b defined arity cs
+  clauses_same defined arity no_clauses of is = is
+  clauses_same defined arity (clause p ps no_guard body cs) of is = (is.0, is.1, trees_same defined body of.2 is.2, clauses_same defined arity cs of.3 is.3)
+  clauses_same defined arity (clause p ps (or_guard es gs) body cs) of is = is
 
   function_same : (defined : List FunctionName) (f : FunctionTree) → FunctionOf now f → IsBuiltFunction a defined f → IsBuiltFunction b defined f
-  function_same defined f of is = (λ info. is.0 (sym_info info), clauses_same defined f.clauses of.1 is.1)
+  function_same defined f of is = (λ info. is.0 (sym_info info), clauses_same defined f.arity f.clauses of.1 is.1)
     where
       sym_info : IsModuleInfo b (record { name = f.name; arity = f.arity }) → IsModuleInfo a (record { name = f.name; arity = f.arity })
       sym_info info = (agree f.name of.0 ∙ info.0, info.1)

@@ -2,7 +2,7 @@
 use Rattle.std.proofs.Common.{◌≡◌, ℕ, zero, suc, ◌≤◌, ◌<◌, List, [], ◌∷◌, length, get_or, ap, arith}
 use Rattle.ef_base.specs.declared.fault.Place.{Place}
 use Rattle.ef_forms.specs.declared.expr.Expr.{Expr}
-use Rattle.ef_forms.specs.Tree.{Tree, Trees, Guards, Clauses, tree, int, atom, var, call, remote, end, more, clause, count}
+use Rattle.ef_forms.specs.Tree.{Tree, Trees, Guards, Clauses, tree, int, atom, var, any, list, list_to, tuple, matching, call, remote, end, more, clause, count}
 use Rattle.ef_forms.specs.Plain.{plain, plain_all}
 use Rattle.ef_forms.specs.Depth.{depth, all_depth, clauses_depth}
 
@@ -10,10 +10,27 @@ pub some_depth : (e : Tree) → 1 ≤ depth e
 some_depth (tree p (int i)) = omega arith
 some_depth (tree p (atom n)) = omega arith
 some_depth (tree p (var n)) = omega arith
+some_depth (tree p any) = omega arith
+some_depth (tree p (list es)) = omega arith
+some_depth (tree p (list_to es e)) = omega arith
+some_depth (tree p (tuple es)) = omega arith
+some_depth (tree p (matching q e)) = omega arith
 some_depth (tree p (call f es)) = omega arith
 some_depth (tree p (remote m f es)) = omega arith
 
 -- ---- a part is less deep than its node
+
+pub list_deeper : (p : Place) (es : Trees) → all_depth es < depth (tree p (list es))
+list_deeper p es = omega arith
+
+pub list_to_deeper : (p : Place) (es : Trees) (e : Tree) → (all_depth es < depth (tree p (list_to es e))) × (depth e < depth (tree p (list_to es e)))
+list_to_deeper p es e = (omega arith, omega arith)
+
+pub tuple_deeper : (p : Place) (es : Trees) → all_depth es < depth (tree p (tuple es))
+tuple_deeper p es = omega arith
+
+pub match_deeper : (p : Place) (q e : Tree) → (depth q < depth (tree p (matching q e))) × (depth e < depth (tree p (matching q e)))
+match_deeper p q e = (omega arith, omega arith)
 
 pub call_deeper : (p : Place) (f : Tree) (es : Trees) → (depth f < depth (tree p (call f es))) × (all_depth es < depth (tree p (call f es)))
 call_deeper p f es = (omega arith, omega arith)

@@ -1,4 +1,5 @@
 pub mod Plain
 pub mod Depths
+pub mod Takes
 pub mod Built
 pub mod Ways

@@ -4,7 +4,7 @@ use Rattle.std.specs.List.{flat_map}
 use Rattle.ef_base.specs.declared.name.Name.{Name}
 use Rattle.ef_base.specs.declared.fault.Place.{Place}
 use Rattle.ef_base.specs.Texts.{Texts, Extends, HasName}
-use Rattle.ef_forms.specs.Tree.{Tree, Trees, Clauses, FunctionTree, tree, int, atom, var, call, remote, end, more, no_clauses, clause}
+use Rattle.ef_forms.specs.Tree.{Tree, Trees, Clauses, FunctionTree, tree, int, atom, var, any, list, list_to, tuple, matching, call, remote, end, more, no_clauses, clause}
 use Rattle.ef_forms.specs.OfTable.{TreeOf, TreesOf, ClausesOf, FunctionOf}
 use Rattle.ef_forms.specs.Ways.{NameSet, faults, all_faults, body_faults, clauses_faults, function_faults, use_faults, on_some, ways, bind, all_names, no_names}
 use Rattle.ef_forms.proofs.Built.{text_later}
@@ -18,6 +18,11 @@ module _ (now all : Texts) (later : Extends now all) where
     faults_same (tree p (int i)) sets of = refl
     faults_same (tree p (atom n)) sets of = refl
     faults_same (tree p (var n)) sets of = use_later p n sets of
+    faults_same (tree p any) sets of = refl
+    faults_same (tree p (list es)) sets of = all_same es sets of
+    faults_same (tree p (list_to es e)) sets of = let one = all_same es sets of.0 in let two = faults_same e sets of.1 in ap (λ l. l ++ faults all e sets) one ∙ ap (λ l. all_faults now es sets ++ l) two
+    faults_same (tree p (tuple es)) sets of = all_same es sets of
+    faults_same (tree p (matching q e)) sets of = faults_same e sets of.1
     faults_same (tree p (call f es)) sets of = let one = faults_same f sets of.0 in let two = all_same es sets of.1 in ap (λ l. l ++ all_faults all es sets) one ∙ ap (λ l. faults now f sets ++ l) two
     faults_same (tree p (remote m f es)) sets of =
         let one = faults_same m sets of.0 in let two = faults_same f sets of.1 in let three = all_same es sets of.2 in

@@ -1,11 +1,10 @@
 -- The modules that are built so far, and the limits on them.
 use Rattle.std.specs.Prelude.{ℕ, ◌≤◌, ◌≡◌, ◌≢◌, ◌⊎◌, List, [], ◌∷◌, codes, map}
 use Rattle.std.specs.List.{flat_map}
-use Rattle.ef_base.specs.declared.name.Name.{Name}
 use Rattle.ef_base.specs.Texts.{Texts, text}
 use Rattle.ef_forms.specs.declared.form.FunctionRef.{FunctionRef}
 use Rattle.ef_forms.specs.declared.tables.FunctionName.{FunctionName}
-use Rattle.ef_forms.specs.Tree.{Tree, Shape, Trees, Guards, Clauses, FunctionTree, FormTree, PlacedTree, ModuleTree, tree, int, atom, var, call, remote, end, more, no_guard, or_guard, no_clauses, clause, module_name, export, function, count}
+use Rattle.ef_forms.specs.Tree.{Tree, Shape, Trees, Guards, Clauses, FunctionTree, FormTree, PlacedTree, ModuleTree, tree, int, atom, var, any, list, list_to, tuple, matching, call, remote, end, more, no_guard, or_guard, no_clauses, clause, module_name, export, function, count}
 
 -- ---- what a module defines and exports, in order of the source
 
@@ -69,6 +68,30 @@ abbrev pub IsAtom : Tree → Type 0
 IsAtom (tree p (atom n)) = Unit {0}
 IsAtom _ = ⊥
 
+-- ---- patterns of variables, integers, atoms, lists and tuples
+
+abbrev mutual
+  pub IsPattern : Tree → Type 0
+  IsPattern (tree p e) = IsPatternShape e
+
+  pub IsPatternShape : Shape → Type 0
+  IsPatternShape (int i) = Unit {0}
+  IsPatternShape (atom n) = Unit {0}
+  IsPatternShape (var n) = Unit {0}
+  IsPatternShape any = Unit {0}
+  IsPatternShape (list es) = ArePatterns es
+  IsPatternShape (list_to es e) = ArePatterns es × IsPattern e
+  IsPatternShape (tuple es) = ArePatterns es
+  IsPatternShape (matching p e) = ⊥
+  IsPatternShape (call f es) = ⊥
+  IsPatternShape (remote m f es) = ⊥
+
+  pub ArePatterns : Trees → Type 0
+  ArePatterns end = Unit {0}
+  ArePatterns (more e es) = IsPattern e × ArePatterns es
+
+-- ---- expressions
+
 module _ (all : Texts) (defined : List FunctionName) where
   abbrev mutual
     pub IsBuiltTree : Tree → Type 0
@@ -78,6 +101,11 @@ module _ (all : Texts) (defined : List FunctionName) where
     IsBuiltShape (int i) = Unit {0}
     IsBuiltShape (atom n) = Unit {0}
     IsBuiltShape (var n) = Unit {0}
+    IsBuiltShape any = Unit {0}
+    IsBuiltShape (list es) = AreBuilt es
+    IsBuiltShape (list_to es e) = AreBuilt es × IsBuiltTree e
+    IsBuiltShape (tuple es) = AreBuilt es
+    IsBuiltShape (matching p e) = IsPattern p × IsBuiltTree e
     IsBuiltShape (call f es) = IsCallOf all defined f (count es) × AreBuilt es
     IsBuiltShape (remote m f es) = IsForeignModule all m × IsAtom f × AreBuilt es
 
@@ -85,21 +113,17 @@ module _ (all : Texts) (defined : List FunctionName) where
     AreBuilt end = Unit {0}
     AreBuilt (more e es) = IsBuiltTree e × AreBuilt es
 
--- ---- one clause without a guard, whose parameters are distinct variables
+-- ---- clauses without guards
 
--- the trees are variables of these names
-abbrev pub AreVariables : Trees → List Name → Type 0
-AreVariables end [] = Unit {0}
-AreVariables (more (tree p (var n)) es) (m ∷ ns) = (m ≡ n) × AreVariables es ns
-AreVariables _ _ = ⊥
-
-abbrev pub IsBuiltClauses : Texts → List FunctionName → Clauses → Type 0
-IsBuiltClauses all defined (clause p ps no_guard body no_clauses) =
-    ((names : List Name) × AreVariables ps names × IsDistinct names) × AreBuilt all defined body
-IsBuiltClauses all defined _ = ⊥
+-- each has so many patterns
+abbrev pub AreBuiltClauses : Texts → List FunctionName → ℕ → Clauses → Type 0
+AreBuiltClauses all defined arity no_clauses = Unit {0}
+AreBuiltClauses all defined arity (clause p ps no_guard body cs) =
+    (count ps ≡ arity) × ArePatterns ps × AreBuilt all defined body × AreBuiltClauses all defined arity cs
+AreBuiltClauses all defined arity (clause p ps (or_guard es gs) body cs) = ⊥
 
 abbrev pub IsBuiltFunction : Texts → List FunctionName → FunctionTree → Type 0
-IsBuiltFunction all defined f = (IsModuleInfo all (key_of f) → ⊥) × IsBuiltClauses all defined f.clauses
+IsBuiltFunction all defined f = (IsModuleInfo all (key_of f) → ⊥) × AreBuiltClauses all defined f.arity f.clauses
 
 -- a module that is built: what it exports and calls is defined, and nothing is defined or exported twice
 pub record IsBuilt (all : Texts) (m : ModuleTree) : Type 0 where
@@ -125,6 +149,11 @@ abbrev mutual
   IsNarrowShape (int i) = Unit {0}
   IsNarrowShape (atom n) = Unit {0}
   IsNarrowShape (var n) = Unit {0}
+  IsNarrowShape any = Unit {0}
+  IsNarrowShape (list es) = AreNarrow es
+  IsNarrowShape (list_to es e) = AreNarrow es × IsNarrow e
+  IsNarrowShape (tuple es) = AreNarrow es
+  IsNarrowShape (matching p e) = IsNarrow p × IsNarrow e
   IsNarrowShape (call f es) = (count es ≤ most_arguments) × IsNarrow f × AreNarrow es
   IsNarrowShape (remote m f es) = (count es ≤ most_arguments) × IsNarrow m × IsNarrow f × AreNarrow es
 

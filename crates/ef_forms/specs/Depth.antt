@@ -1,6 +1,6 @@
 -- The depth of a tree: its greatest nesting. A node without parts is one deep, another is one deeper than its deepest part.
 use Rattle.std.specs.Prelude.{ℕ, ◌+◌, max}
-use Rattle.ef_forms.specs.Tree.{Tree, Shape, Trees, Guards, Clauses, FunctionTree, tree, int, atom, var, call, remote, end, more, no_guard, or_guard, no_clauses, clause}
+use Rattle.ef_forms.specs.Tree.{Tree, Shape, Trees, Guards, Clauses, FunctionTree, tree, int, atom, var, any, list, list_to, tuple, matching, call, remote, end, more, no_guard, or_guard, no_clauses, clause}
 
 abbrev mutual
   pub depth : Tree → ℕ
@@ -10,6 +10,11 @@ abbrev mutual
   shape_depth (int i) = 1
   shape_depth (atom n) = 1
   shape_depth (var n) = 1
+  shape_depth any = 1
+  shape_depth (list es) = 1 + all_depth es
+  shape_depth (list_to es e) = 1 + max (all_depth es) (depth e)
+  shape_depth (tuple es) = 1 + all_depth es
+  shape_depth (matching p e) = 1 + max (depth p) (depth e)
   shape_depth (call f es) = 1 + max (depth f) (all_depth es)
   shape_depth (remote m f es) = 1 + max (depth m) (max (depth f) (all_depth es))
 

@@ -2,7 +2,7 @@
 use Rattle.std.specs.Prelude.{List, [], ◌∷◌}
 use Rattle.ef_base.specs.Texts.{Texts, HasName}
 use Rattle.ef_forms.specs.declared.form.FunctionRef.{FunctionRef}
-use Rattle.ef_forms.specs.Tree.{Tree, Shape, Trees, Guards, Clauses, FunctionTree, FormTree, PlacedTree, ModuleTree, tree, int, atom, var, call, remote, end, more, no_guard, or_guard, no_clauses, clause, module_name, export, function}
+use Rattle.ef_forms.specs.Tree.{Tree, Shape, Trees, Guards, Clauses, FunctionTree, FormTree, PlacedTree, ModuleTree, tree, int, atom, var, any, list, list_to, tuple, matching, call, remote, end, more, no_guard, or_guard, no_clauses, clause, module_name, export, function}
 
 module _ (texts : Texts) where
   abbrev mutual
@@ -13,6 +13,11 @@ module _ (texts : Texts) where
     ShapeOf (int i) = Unit {0}
     ShapeOf (atom n) = HasName texts n
     ShapeOf (var n) = HasName texts n
+    ShapeOf any = Unit {0}
+    ShapeOf (list es) = TreesOf es
+    ShapeOf (list_to es e) = TreesOf es × TreeOf e
+    ShapeOf (tuple es) = TreesOf es
+    ShapeOf (matching p e) = TreeOf p × TreeOf e
     ShapeOf (call f es) = TreeOf f × TreesOf es
     ShapeOf (remote m f es) = TreeOf m × TreeOf f × TreesOf es
 

@@ -1,5 +1,5 @@
 -- The tree that a value of the program stands for.
-use Rattle.std.specs.Prelude.{List, [], ◌∷◌, map, Vec}
+use Rattle.std.specs.Prelude.{List, [], ◌∷◌, map, Vec, Option, Some, None, Box}
 use Rattle.std.specs.declared.alloc.Global.{Global}
 use Rattle.ef_forms.specs.declared.expr.Expr.{Expr}
 use Rattle.ef_forms.specs.declared.expr.Node.TheOpen as layer
@@ -19,11 +19,19 @@ abbrev pub trees : List Tree → Trees
 trees [] = t.end
 trees (e ∷ es) = t.more e (trees es)
 
+abbrev pub list_of : Trees → Option (Box Tree Global) → Shape
+list_of es None = t.list es
+list_of es (Some e) = t.list_to es e.value
+
 -- one layer, with the trees of the parts in their places
 abbrev pub shape_layer : Node-F Shape Tree → Shape
 shape_layer (layer.Int n) = t.int n
 shape_layer (layer.Atom n) = t.atom n
 shape_layer (layer.Var n) = t.var n
+shape_layer layer.Any = t.any
+shape_layer (layer.List es e) = list_of (trees es.items) e
+shape_layer (layer.Tuple es) = t.tuple (trees es.items)
+shape_layer (layer.Match p e) = t.matching p.value e.value
 shape_layer (layer.Call f es) = t.call f.value (trees es.items)
 shape_layer (layer.Remote m f es) = t.remote m.value f.value (trees es.items)
 

@@ -13,6 +13,14 @@ mutual
     int : ℤ → Shape
     atom : Name → Shape
     var : Name → Shape
+    -- `_`
+    any : Shape
+    list : Trees → Shape
+    -- items before a tail
+    list_to : Trees → Tree → Shape
+    tuple : Trees → Shape
+    -- a pattern, and what is matched with it
+    matching : Tree → Tree → Shape
     call : Tree → Trees → Shape
     remote : Tree → Tree → Trees → Shape
 

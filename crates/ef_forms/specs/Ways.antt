@@ -1,13 +1,13 @@
 -- Which names may be bound after an expression, and which uses of names are faults, as far as trees are built.
 -- A way is the set of names that are bound on it. `ways e s` lists the ways that lead on from `e`, each grown from the
 -- one set `s` with which it starts.
-use Rattle.std.specs.Prelude.{ℕ, List, [], ◌∷◌, ◌++◌, Bool, false, ◌||◌, ◌==◌, map, if◌then◌else◌}
+use Rattle.std.specs.Prelude.{ℕ, List, [], ◌∷◌, ◌++◌, codes, Bool, false, ◌||◌, ◌==◌, map, if◌then◌else◌}
 use Rattle.std.specs.List.{flat_map, list_any}
 use Rattle.ef_base.specs.declared.name.Name.{Name}
 use Rattle.ef_base.specs.declared.fault.Place.{Place}
 use Rattle.ef_base.specs.declared.fault.Fault.{Fault}
 use Rattle.ef_base.specs.Texts.{Texts, text}
-use Rattle.ef_forms.specs.Tree.{Tree, Shape, Trees, Clauses, FunctionTree, tree, int, atom, var, call, remote, end, more, no_clauses, clause}
+use Rattle.ef_forms.specs.Tree.{Tree, Shape, Trees, Clauses, FunctionTree, tree, int, atom, var, any, list, list_to, tuple, matching, call, remote, end, more, no_clauses, clause}
 
 -- a set of names, each by its number
 abbrev pub NameSet : Type 0
@@ -53,6 +53,11 @@ abbrev mutual
   shape_names (int i) = no_names
   shape_names (atom n) = no_names
   shape_names (var n) = one_name n
+  shape_names any = no_names
+  shape_names (list es) = all_names es
+  shape_names (list_to es e) = union (all_names es) (names e)
+  shape_names (tuple es) = all_names es
+  shape_names (matching p e) = union (names p) (names e)
   shape_names (call f es) = union (names f) (all_names es)
   shape_names (remote m f es) = union (names m) (union (names f) (all_names es))
 
@@ -69,6 +74,12 @@ abbrev mutual
   shape_ways (int i) = stay
   shape_ways (atom n) = stay
   shape_ways (var n) = bind (one_name n)
+  shape_ways any = stay
+  shape_ways (list es) = side_by_side es
+  shape_ways (list_to es e) = beside (side_by_side es) (ways e)
+  shape_ways (tuple es) = side_by_side es
+  -- the pattern binds behind the expression
+  shape_ways (matching p e) = before (ways e) (bind (names p))
   shape_ways (call f es) = beside (ways f) (side_by_side es)
   shape_ways (remote m f es) = beside (ways m) (beside (ways f) (side_by_side es))
 
@@ -91,6 +102,9 @@ module _ (all : Texts) where
   abbrev pub unbound : Place → Name → Fault
   unbound p n = record { place = p; code = 451; words = text all n }
 
+  abbrev pub wildcard : Place → Fault
+  wildcard p = record { place = p; code = 451; words = codes "_" }
+
   -- a use is unbound where the name is bound on no way
   abbrev pub use_faults : Place → Name → List NameSet → List Fault
   use_faults p n sets = if on_some n sets then [] else (unbound p n ∷ [])
@@ -103,6 +117,12 @@ module _ (all : Texts) where
     shape_faults p (int i) sets = []
     shape_faults p (atom n) sets = []
     shape_faults p (var n) sets = use_faults p n sets
+    -- `_` is never bound
+    shape_faults p any sets = wildcard p ∷ []
+    shape_faults p (list es) sets = all_faults es sets
+    shape_faults p (list_to es e) sets = all_faults es sets ++ faults e sets
+    shape_faults p (tuple es) sets = all_faults es sets
+    shape_faults p (matching q e) sets = faults e sets
     shape_faults p (call f es) sets = faults f sets ++ all_faults es sets
     shape_faults p (remote m f es) sets = faults m sets ++ (faults f sets ++ all_faults es sets)
 

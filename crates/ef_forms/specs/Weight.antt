@@ -1,6 +1,6 @@
 -- The weight of a tree: the number of its nodes.
 use Rattle.std.specs.Prelude.{ℕ, ◌+◌}
-use Rattle.ef_forms.specs.Tree.{Tree, Shape, Trees, Guards, Clauses, FunctionTree, tree, int, atom, var, call, remote, end, more, no_guard, or_guard, no_clauses, clause}
+use Rattle.ef_forms.specs.Tree.{Tree, Shape, Trees, Guards, Clauses, FunctionTree, tree, int, atom, var, any, list, list_to, tuple, matching, call, remote, end, more, no_guard, or_guard, no_clauses, clause}
 
 abbrev mutual
   pub weight : Tree → ℕ
@@ -10,6 +10,11 @@ abbrev mutual
   shape_weight (int i) = 1
   shape_weight (atom n) = 1
   shape_weight (var n) = 1
+  shape_weight any = 1
+  shape_weight (list es) = 1 + all_weight es
+  shape_weight (list_to es e) = 1 + (all_weight es + weight e)
+  shape_weight (tuple es) = 1 + all_weight es
+  shape_weight (matching p e) = 1 + (weight p + weight e)
   shape_weight (call f es) = 1 + (weight f + all_weight es)
   shape_weight (remote m f es) = 1 + (weight m + (weight f + all_weight es))
 

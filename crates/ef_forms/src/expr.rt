@@ -15,6 +15,19 @@ pub enum Node {
     Int(i128),
     Atom(Name),
     Var(Name),
+    /// `_`
+    Any,
+    /// No items and no tail are `[]`.
+    List {
+        items: Vec<Expr>,
+        tail: Option<Box<Expr>>,
+    },
+    Tuple(Vec<Expr>),
+    /// `left = right`
+    Match {
+        left: Box<Expr>,
+        right: Box<Expr>,
+    },
     Call {
         target: Box<Expr>,
         args: Vec<Expr>,

@@ -16,7 +16,14 @@ pub fn depth(expr: &Expr) -> u32
     ensures { result ≡ min (d.depth (plain expr.now)) (2 ^ 32 - 1) }
 {
     match &expr.node {
-        Node::Int(_) | Node::Atom(_) | Node::Var(_) => 1,
+        Node::Int(_) | Node::Atom(_) | Node::Var(_) | Node::Any => 1,
+        Node::List { items, tail: None } => all_depth(items).saturating_add(1),
+        Node::List {
+            items,
+            tail: Some(tail),
+        } => all_depth(items).max(depth(tail)).saturating_add(1),
+        Node::Tuple(items) => all_depth(items).saturating_add(1),
+        Node::Match { left, right } => depth(left).max(depth(right)).saturating_add(1),
         Node::Call { target, args } => depth(target).max(all_depth(args)).saturating_add(1),
         Node::Remote {
             module,
@@ -48,7 +55,16 @@ pub fn weight(expr: &Expr, records: &[RecordDef]) -> u64
     ensures { result ≡ min (w.weight (plain expr.now)) (2 ^ 22 + 1) }
 {
     match &expr.node {
-        Node::Int(_) | Node::Atom(_) | Node::Var(_) => 1,
+        Node::Int(_) | Node::Atom(_) | Node::Var(_) | Node::Any => 1,
+        Node::List { items, tail: None } => (1 + all_weight(items, records)).min(OVER),
+        Node::List {
+            items,
+            tail: Some(tail),
+        } => (1 + all_weight(items, records) + weight(tail, records)).min(OVER),
+        Node::Tuple(items) => (1 + all_weight(items, records)).min(OVER),
+        Node::Match { left, right } => (1 + weight(left, records) + weight(right, records)).min(
+            OVER,
+        ),
         Node::Call { target, args } => {
             let parts = weight(target, records) + all_weight(args, records);
             (1 + parts).min(OVER)

@@ -41,11 +41,35 @@ fn chain(alloc: Global, calls: u32) -> Result<Expr, Fail> {
     Ok(inner)
 }
 
+fn tuple(items: Vec<Expr>) -> Expr {
+    expr(Node::Tuple(items))
+}
+
+fn list(items: Vec<Expr>) -> Expr {
+    expr(Node::List { items, tail: None })
+}
+
+fn list_to(alloc: Global, items: Vec<Expr>, tail: Expr) -> Result<Expr, Fail> {
+    let tail = Some(Box::new(alloc, tail)?);
+    Ok(expr(Node::List { items, tail }))
+}
+
+fn matching(alloc: Global, left: Expr, right: Expr) -> Result<Expr, Fail> {
+    Ok(expr(Node::Match {
+        left: Box::new(alloc, left)?,
+        right: Box::new(alloc, right)?,
+    }))
+}
+
 #[test]
 fn depths_and_weights(rt: HostRuntime) -> Result<(), Fail> {
     let alloc = rt.alloc();
     let two = vec![in alloc; chain(alloc, 0)?, chain(alloc, 2)?]?;
     let one = vec![in alloc; chain(alloc, 0)?]?;
+    let pair = vec![in alloc; chain(alloc, 1)?, chain(alloc, 0)?]?;
+    let head = vec![in alloc; chain(alloc, 0)?]?;
+    let deep_head = vec![in alloc; chain(alloc, 1)?]?;
+    let single = vec![in alloc; chain(alloc, 0)?]?;
     let table = [
         ("1", chain(alloc, 0)?, 1, 1),
         ("a(1)", chain(alloc, 1)?, 2, 3),
@@ -54,6 +78,30 @@ fn depths_and_weights(rt: HostRuntime) -> Result<(), Fail> {
         ("(a(a(1)))(1)", call(alloc, chain(alloc, 2)?, one)?, 4, 7),
         ("(a(1)):a()", remote(alloc, chain(alloc, 1)?, atom())?, 3, 5),
         ("a:(a(1))()", remote(alloc, atom(), chain(alloc, 1)?)?, 3, 5),
+        ("_", expr(Node::Any), 1, 1),
+        ("[]", list(Vec::new(alloc)), 1, 1),
+        ("[1]", list(vec![in alloc; chain(alloc, 0)?]?), 2, 2),
+        ("{}", tuple(Vec::new(alloc)), 1, 1),
+        ("{a(1), 1}", tuple(pair), 3, 5),
+        ("[1 | a(1)]", list_to(alloc, head, chain(alloc, 1)?)?, 3, 5),
+        (
+            "[a(1) | 1]",
+            list_to(alloc, deep_head, chain(alloc, 0)?)?,
+            3,
+            5,
+        ),
+        (
+            "_ = a(1)",
+            matching(alloc, expr(Node::Any), chain(alloc, 1)?)?,
+            3,
+            5,
+        ),
+        (
+            "{1} = 1",
+            matching(alloc, tuple(single), chain(alloc, 0)?)?,
+            3,
+            4,
+        ),
         ("a(a(.. a(1)))", chain(alloc, 100)?, 101, 201),
     ];
     for (text, expr, deep, heavy) in &table {

@@ -4,11 +4,11 @@ use Rattle.ef_base.specs.declared.fault.Place.{Place}
 use Rattle.ef_base.specs.declared.fault.Fault.{Fault}
 use Rattle.ef_base.specs.declared.fault.Refusal.TheVariants.{Faulty}
 use Rattle.ef_base.specs.declared.name.Name.{Name}
-use Rattle.ef_parse.specs.Reads.{AreClausesRefused}
+use Rattle.ef_parse.specs.Reads.{first_name, ReadsClauses, AreClausesRefused}
 use Rattle.ef_base.specs.Texts.{Texts, Extends, HasName, IsNameOf, text}
 use Rattle.std.specs.Str.{bytes_eq}
 use Rattle.std.specs.Prelude.{if◌then◌else◌}
-use Rattle.ef_base.specs.Laws.{named_later, has_later}
+use Rattle.ef_base.specs.Laws.{named_later, has_later, extends_same}
 use Rattle.ef_token.specs.declared.token.TokenKind.{TokenKind}
 use Rattle.ef_token.specs.declared.token.TokenKind.TheVariants as kind
 use Rattle.ef_token.specs.declared.token.Token.{Token}
@@ -19,16 +19,17 @@ use Rattle.ef_forms.specs.declared.form.Form.{Form}
 use Rattle.ef_forms.specs.declared.form.Form.TheVariants as form
 use Rattle.ef_forms.specs.declared.form.FunctionRef.{FunctionRef}
 use Rattle.ef_forms.specs.Tree.{Clauses, FormTree, module_name, export, function}
+use Rattle.ef_forms.specs.Built.{AreNarrowClauses}
 use Rattle.ef_forms.specs.OfTable.{FormOf, ReferencesOf}
-use Rattle.ef_parse.specs.Grammar.{token, symbol, SpellsClauses, one_clause}
-use Rattle.ef_parse.proofs.One.{one_clauses}
+use Rattle.ef_parse.specs.Grammar.{token, symbol, SpellsClauses, a_clause, one_clause, and_clauses}
+use Rattle.ef_parse.proofs.One.{clauses_name, one_name, one_clauses}
 use Rattle.ef_parse.proofs.OfTable.{clauses_of, first, second}
 use Rattle.ef_module.specs.declared.attribute.Keyword.TheVariants as keyword
 use Rattle.ef_module.specs.declared.attribute.Mode.{Mode}
 use Rattle.ef_module.specs.declared.attribute.Mode.TheVariants as mode
 use Rattle.ef_module.specs.Attribute.{seen, seen_symbol, keyword_of, Move, Take, Stop, Outcome, named, listed, refused, went, after_keyword, at_keyword, move, follow, run, IsAnswer}
 use Rattle.ef_module.specs.Forms.{SpellsForm, a_module_name, an_export, a_function, SpellsReference, SpellsReferences, SpellsReferenceList, a_reference, one, and_more, nothing, some, IsNarrowForm}
-use Rattle.ef_module.specs.Read.{IsReadForm, is_attribute, first_name, ReadsFunction, function_of, IsReadFunction}
+use Rattle.ef_module.specs.Read.{IsReadForm, is_attribute, SpellsFunction, function_of, IsReadFunction, IsFunctionOf}
 use Rattle.ef_module.proofs.ReadAttribute.{module_read, export_read, attribute_spelled}
 
 -- ---- later tables
@@ -76,14 +77,9 @@ same_run now all (t ∷ ts) m rs later h =
 
 -- ---- how a form begins
 
-clauses_begin : (n : Name) (cs : Clauses) (d : ℕ) (ts us : List Token) → SpellsClauses n cs d ts → is_attribute (ts ++ us) ≡ false
-clauses_begin n cs d ts us (one_clause n' ps es c g p q r s xs ys h h') = refl
-
-pub clauses_name : (n : Name) (cs : Clauses) (d : ℕ) (ts : List Token) → SpellsClauses n cs d ts → first_name ts ≡ Some n
-clauses_name n cs d ts (one_clause n' ps es c g p q r s xs ys h h') = refl
-
-some_is : (m n : Name) → Some m ≡ Some n → m ≡ n
-some_is m n e = cc
+clauses_begin : (all : Texts) (n : Name) (cs : Clauses) (d : ℕ) (ts us : List Token) → SpellsClauses all n cs d ts → is_attribute (ts ++ us) ≡ false
+clauses_begin all n cs d ts us (one_clause n' p ps es d' ts' (a_clause n'' ps' es' c g p' q r s xs ys h h')) = refl
+clauses_begin all n cs d ts us (and_clauses n' p ps es cs' d' f w ts' vs (a_clause n'' ps' es' c g p' q r s xs ys h h') more) = refl
 
 true_false : true ≡ false → ⊥
 true_false e = cc
@@ -104,7 +100,7 @@ spelled_run now all f ts later names e (a_module_name m n p q r s t u w) h =
 spelled_run now all f ts later names e (an_export m fs p q r s t u v us w l) h =
     sym (same_run now all (symbol sy.Minus p ∷ token (kind.Atom m) q ∷ symbol sy.LeftParen r ∷ symbol sy.LeftBracket s ∷ (us ++ symbol sy.RightBracket t ∷ symbol sy.RightParen u ∷ token kind.Dot v ∷ [])) mode.Minus [] later names)
     ∙ export_read all m fs p q r s t u v us w l h
-spelled_run now all f ts later names e (a_function n cs d p us c w) h = absurd (true_false (sym e ∙ clauses_begin n cs d us (token kind.Dot p ∷ []) c))
+spelled_run now all f ts later names e (a_function n cs d p us c w) h = absurd (true_false (sym e ∙ clauses_begin all n cs d us (token kind.Dot p ∷ []) c))
 
 only_module : (other : FormTree) (n : Name) → IsRun other (named n) → other ≡ module_name n
 only_module (module_name m) n e = cc
@@ -150,30 +146,30 @@ init_is (u ∷ []) t = refl
 init_is (u ∷ v ∷ ts) t = ap (λ z. u ∷ z) (init_is (v ∷ ts) t)
 
 -- the tokens before the full stop
-abbrev OfFunction : FormTree → List Token → Type 0
-OfFunction f us = (n : Name) × (cs : Clauses) × ReadsFunction n cs us × (f ≡ function_of n cs us)
+abbrev OfFunction : Texts → FormTree → List Token → Type 0
+OfFunction all f us = (n : Name) × (cs : Clauses) × SpellsFunction all n cs us × (f ≡ function_of n cs us)
 
 spelled_function : (all : Texts) (f : FormTree) (ts us : List Token) (p : Place) → SpellsForm all f ts → IsNarrowForm f → ts ≡ us ++ token kind.Dot p ∷ [] → is_attribute ts ≡ false
-    → OfFunction f us
+    → OfFunction all f us
 spelled_function all f ts us p (a_module_name m n q r s t u v w) h e b = absurd (true_false b)
 spelled_function all f ts us p (an_export m fs q r s t u v x vs w l) h e b = absurd (true_false b)
 spelled_function all f ts us p (a_function n cs d q vs c w) h e b =
     let same : vs ≡ us = sym (init_is vs (token kind.Dot q)) ∙ ap init e ∙ init_is us (token kind.Dot p) in
-    (n, cs, record { nesting = d; within = w; spelled = subst (SpellsClauses n cs d) same c; narrow = h }, ap (function_of n cs) same)
+    (n, cs, record { nesting = d; within = w; spelled = subst (SpellsClauses all n cs d) same c; narrow = h }, ap (function_of n cs) same)
 
-same_function : (m n : Name) (cs ds : Clauses) (us : List Token) → ReadsFunction m cs us → ReadsFunction n ds us → function_of m cs us ≡ function_of n ds us
-same_function m n cs ds us x y =
-    let name : m ≡ n = some_is m n (sym (clauses_name m cs x.nesting us x.spelled) ∙ clauses_name n ds y.nesting us y.spelled) in
-    ap (λ z. function_of z cs us) name ∙ ap (λ z. function_of n z us) (one_clauses m n cs ds x.nesting y.nesting us x.spelled y.spelled).0
+same_function : (all : Texts) (m n : Name) (cs ds : Clauses) (us : List Token) → SpellsFunction all m cs us → SpellsFunction all n ds us → function_of m cs us ≡ function_of n ds us
+same_function all m n cs ds us x y =
+    ap (λ z. function_of z cs us) (one_name all m n cs ds x.nesting y.nesting us x.spelled y.spelled)
+    ∙ ap (λ z. function_of n z us) (one_clauses all m n cs ds x.nesting y.nesting us x.spelled y.spelled).0
 
-pub function_read : (now : Texts) (ts us : List Token) (p : Place) (made : Option Form) → ts ≡ us ++ token kind.Dot p ∷ [] → is_attribute ts ≡ false → IsReadFunction us made → IsReadForm now ts made
+pub function_read : (now : Texts) (ts us : List Token) (p : Place) (made : Option Form) → ts ≡ us ++ token kind.Dot p ∷ [] → is_attribute ts ≡ false → IsReadFunction now us made → IsReadForm now ts made
 function_read now ts us p (Some f) e b r =
     record {
-      spelled = λ all later. subst (λ z. SpellsForm all z ts) (sym r.3) (subst (SpellsForm all (function_of r.0 r.1 us)) (sym e) (a_function r.0 r.1 r.2.nesting p us r.2.spelled r.2.within));
-      narrow = subst IsNarrowForm (sym r.3) r.2.narrow;
-      alone = λ all later other s h. let o = spelled_function all other ts us p s h e b in o.3 ∙ same_function o.0 r.0 o.1 r.1 us o.2 r.2 ∙ sym r.3;
+      spelled = λ all later. subst (λ z. SpellsForm all z ts) (sym r.3) (subst (SpellsForm all (function_of r.0 r.1 us)) (sym e) (let x = r.2 all later in a_function r.0 r.1 x.nesting p us x.spelled x.within));
+      narrow = subst IsNarrowForm (sym r.3) (r.2 now (extends_same now)).narrow;
+      alone = λ all later other s h. let o = spelled_function all other ts us p s h e b in o.3 ∙ same_function all o.0 r.0 o.1 r.1 us o.2 (r.2 all later) ∙ sym r.3;
     }
-function_read now ts us p None e b r = λ all later f s h. let o = spelled_function all f ts us p s h e b in r o.0 o.1 o.2
+function_read now ts us p None e b r = λ all later f s h. let o = spelled_function all f ts us p s h e b in r all later o.0 o.1 o.2
 
 -- a form is its tokens before the full stop, and that
 pub form_is : (ts : List Token) → IsForm ts → (n : ℕ) → n + 1 ≡ length ts → (p : Place) × (ts ≡ take n ts ++ token kind.Dot p ∷ [])
@@ -196,19 +192,41 @@ list_of : (all : Texts) (fs : List FunctionRef) (ts : List Token) → SpellsRefe
 list_of all fs ts nothing h = tt
 list_of all fs ts (some fs' ts' s) h = references_of all fs' ts' s h
 
-name_of : (all : Texts) (n : Name) (cs : Clauses) (d : ℕ) (ts : List Token) → SpellsClauses n cs d ts → TokensOf all ts → HasName all n
-name_of all n cs d ts (one_clause n' ps es c g p q r s xs ys k k') h = h.0
+name_of : (all : Texts) (n : Name) (cs : Clauses) (d : ℕ) (ts : List Token) → SpellsClauses all n cs d ts → TokensOf all ts → HasName all n
+name_of all n cs d ts (one_clause n' p ps es d' ts' (a_clause n'' ps' es' c g p' q r s xs ys k k')) h = h.0
+name_of all n cs d ts (and_clauses n' p ps es cs' d' f w ts' vs (a_clause n'' ps' es' c g p' q r s xs ys k k') more) h = h.0
 
 pub form_of : (all : Texts) (f : FormTree) (ts : List Token) → SpellsForm all f ts → TokensOf all ts → FormOf all f
 form_of all f ts (a_module_name m n p q r s t u w) h = h.1.1.1.0
 form_of all f ts (an_export m fs p q r s t u v us w l) h = list_of all fs us l (first all us _ h.1.1.1.1)
-form_of all f ts (a_function n cs d p us c w) h = (name_of all n cs d us c (first all us _ h), clauses_of all n cs d us c (first all us _ h))
+form_of all f ts (a_function n cs d p us c w) h = (name_of all n cs d us c (first all us _ h), clauses_of all all n cs d us c (first all us _ h))
+
+-- ---- the answers of the parser
 
 -- clauses that are refused are no function
-pub no_function : (ts : List Token) (f : Fault) → AreClausesRefused ts (Faulty f) → (n : Name) (cs : Clauses) → ReadsFunction n cs ts → ⊥
-no_function ts f r n cs x =
-    ⊎_elim (λ none. none.1 n cs x.nesting x.spelled)
-    (λ d. let same = one_clauses n d.1.0 cs d.1.1 x.nesting d.1.2 ts x.spelled d.1.4 in omega (arith, same.1, x.within, d.1.3)) r
+pub no_function : (now : Texts) (ts : List Token) (f : Fault) → AreClausesRefused now ts (Faulty f) → IsReadFunction now ts None
+no_function now ts f r all later n cs x =
+    ⊎_elim (λ none. none.1 all later n cs x.nesting x.spelled)
+    (λ d. let same = one_clauses all n d.1.0 cs d.1.1 x.nesting d.1.2 ts x.spelled (d.1.4 all later) in omega (arith, same.1, x.within, d.1.3)) r
+
+some_is : (m n : Name) → Some m ≡ Some n → m ≡ n
+some_is m n e = cc
+
+none_some : (n : Name) → None ≡ Some n → ⊥
+none_some n e = cc
+
+-- the function of the clauses that are read
+pub read_of : (now : Texts) (cs : Clauses) (ts : List Token) (made : Option Form) → ReadsClauses now cs ts → IsFunctionOf cs ts made → IsReadFunction now ts made
+read_of now cs ts (Some f) r h =
+    let name : first_name ts ≡ Some r.name = clauses_name now r.name cs r.nesting ts (r.spelled now (extends_same now)) in (
+      r.name,
+      cs,
+      λ all later. record { nesting = r.nesting; within = r.within; spelled = r.spelled all later; narrow = h.2 },
+      h.3 ∙ ap (λ z. function_of z cs ts) (some_is h.0 r.name (sym h.1 ∙ name)),
+    )
+read_of now cs ts None r h = λ all later n bs x.
+    ⊎_elim (λ none. none_some n (sym none ∙ clauses_name all n bs x.nesting ts x.spelled))
+    (λ wide. wide (subst AreNarrowClauses (one_clauses all n r.name bs cs x.nesting r.nesting ts x.spelled (r.spelled all later)).0 x.narrow)) h
 
 long : (ts : List Token) → IsForm ts → 0 < length ts
 long [] h = absurd h
@@ -216,3 +234,9 @@ long (t ∷ ts) h = omega arith
 
 pub before_dot : (ts : List Token) → IsForm ts → (p : Place) × (ts ≡ take (length ts - 1) ts ++ token kind.Dot p ∷ [])
 before_dot ts h = form_is ts h (length ts - 1) (omega (arith, long ts h))
+
+-- the tokens before the full stop have names of the table
+pub named_before : (now : Texts) (ts : List Token) → IsForm ts → TokensOf now ts → TokensOf now (take (length ts - 1) ts)
+named_before now ts h names =
+    let d = before_dot ts h in
+    first now (take (length ts - 1) ts) (token kind.Dot d.0 ∷ []) (subst (TokensOf now) d.1 names)

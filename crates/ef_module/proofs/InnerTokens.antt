@@ -1,9 +1,8 @@
 -- Tokens without a full stop, and the form that they make with one.
 use Rattle.std.proofs.Common.{◌≡◌, List, [], ◌∷◌, ◌++◌}
-use Rattle.ef_base.specs.Texts.{Texts}
 use Rattle.ef_token.specs.declared.token.TokenKind.TheVariants as kind
 use Rattle.ef_token.specs.declared.token.Token.{Token}
-use Rattle.ef_token.specs.TokenForm.{IsForm, KindOf, TokensOf}
+use Rattle.ef_token.specs.TokenForm.{IsForm}
 
 abbrev pub AreInner : List Token → Type 0
 AreInner [] = Unit {0}
@@ -12,10 +11,6 @@ AreInner (t ∷ ts) = (t.kind ≡ kind.Dot → ⊥) × AreInner ts
 pub inner_more : (ts : List Token) (t : Token) → AreInner ts → (t.kind ≡ kind.Dot → ⊥) → AreInner (ts ++ t ∷ [])
 inner_more [] t h k = (k, tt)
 inner_more (u ∷ ts) t h k = (h.0, inner_more ts t h.1 k)
-
-pub tokens_more : (all : Texts) (ts : List Token) (t : Token) → TokensOf all ts → KindOf all t.kind → TokensOf all (ts ++ t ∷ [])
-tokens_more all [] t h k = (k, tt)
-tokens_more all (u ∷ ts) t h k = (h.0, tokens_more all ts t h.1 k)
 
 pub form_with : (ts : List Token) (t : Token) → AreInner ts → t.kind ≡ kind.Dot → IsForm (ts ++ t ∷ [])
 form_with [] t h k = k

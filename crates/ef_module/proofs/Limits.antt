@@ -1,19 +1,13 @@
 -- The tests of the limits, one list item at a time, and what they say.
-use Rattle.std.proofs.Common.{◌≡◌, ℕ, ◌≤◌, Bool, true, false, List, [], ◌∷◌, refl, arith, length}
+use Rattle.std.proofs.Common.{◌≡◌, ℕ, ◌≤◌, Bool, true, false, refl, arith}
 use Rattle.std.specs.Prelude.{nat_le, ◌&&◌}
 use Rattle.std.proofs.lemmas.Bool.Decides.{nat_tests}
-use Rattle.ef_forms.specs.declared.expr.Expr.{Expr}
-use Rattle.ef_forms.specs.Tree.{Tree, Shape, Trees, Guards, Clauses, tree, int, atom, var, call, remote, end, more, no_guard, or_guard, no_clauses, clause, count}
-use Rattle.ef_forms.specs.Plain.{plain_all}
+use Rattle.ef_forms.specs.Tree.{Tree, Shape, Trees, Guards, Clauses, tree, int, atom, var, any, list, list_to, tuple, matching, call, remote, end, more, no_guard, or_guard, no_clauses, clause, count}
 use Rattle.ef_forms.specs.Built.{most_arguments, IsNarrow, IsNarrowShape, AreNarrow, AreNarrowGuards, AreNarrowClauses}
-use Rattle.ef_forms.proofs.Plain.{plain_expr, plain_int, plain_atom, plain_var, plain_call, plain_remote}
+use Rattle.ef_forms.proofs.Plain as p
 use Rattle.ef_module.specs.Narrow.{narrow, narrow_shape, narrow_all, narrow_guard, narrow_clause, narrow_clauses}
 
-pub count_all : (es : List Expr) → count (plain_all es) ≡ length es
-count_all [] = refl
-count_all (e ∷ es) = omega (arith, count_all es)
-
-pub ruleset laws = (count_all, plain_expr, plain_int, plain_atom, plain_var, plain_call, plain_remote)
+pub ruleset laws = (p.counted, p.plain_expr, p.plain_int, p.plain_atom, p.plain_var, p.plain_any, p.plain_list, p.plain_list_to, p.plain_tuple, p.plain_match, p.plain_call, p.plain_remote)
 
 left_of : (a b : Bool) → (a && b) ≡ true → a ≡ true
 left_of true b e = refl
@@ -41,6 +35,11 @@ mutual
   there_shape (int i) h = tt
   there_shape (atom n) h = tt
   there_shape (var n) h = tt
+  there_shape any h = tt
+  there_shape (list es) h = there_all es h
+  there_shape (list_to es e) h = (there_all es (left_of (narrow_all es) (narrow e) h), there e (right_of (narrow_all es) (narrow e) h))
+  there_shape (tuple es) h = there_all es h
+  there_shape (matching q e) h = (there q (left_of (narrow q) (narrow e) h), there e (right_of (narrow q) (narrow e) h))
   there_shape (call f es) h =
       let r = right_of (narrow f) (nat_le (count es) most_arguments && narrow_all es) h in
       (le_there _ _ (left_of (nat_le (count es) most_arguments) (narrow_all es) r), there f (left_of (narrow f) (nat_le (count es) most_arguments && narrow_all es) h), there_all es (right_of (nat_le (count es) most_arguments) (narrow_all es) r))
@@ -61,6 +60,11 @@ mutual
   back_shape (int i) h = refl
   back_shape (atom n) h = refl
   back_shape (var n) h = refl
+  back_shape any h = refl
+  back_shape (list es) h = back_all es h
+  back_shape (list_to es e) h = both_of _ _ (back_all es h.0) (back e h.1)
+  back_shape (tuple es) h = back_all es h
+  back_shape (matching q e) h = both_of _ _ (back q h.0) (back e h.1)
   back_shape (call f es) h = both_of _ _ (back f h.1) (both_of _ _ (le_back _ _ h.0) (back_all es h.2))
   back_shape (remote m f es) h = both_of _ _ (back m h.1) (both_of _ _ (back f h.2) (both_of _ _ (le_back _ _ h.0) (back_all es h.3)))
 

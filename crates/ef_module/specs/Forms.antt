@@ -48,7 +48,7 @@ pub data SpellsForm (all : Texts) : FormTree → List Token → Type 0 where
       → SpellsForm all (export fs)
       (symbol sym.Minus p ∷ token (kind.Atom m) q ∷ symbol sym.LeftParen r ∷ symbol sym.LeftBracket s
       ∷ (ts ++ symbol sym.RightBracket t ∷ symbol sym.RightParen u ∷ token kind.Dot v ∷ []))
-  a_function : (n : Name) (cs : Clauses) (d : ℕ) (p : Place) (ts : List Token) → SpellsClauses n cs d ts → d ≤ most_nesting
+  a_function : (n : Name) (cs : Clauses) (d : ℕ) (p : Place) (ts : List Token) → SpellsClauses all n cs d ts → d ≤ most_nesting
       → SpellsForm all (function (record { place = start_of ts; name = n; arity = arity_of cs; clauses = cs })) (ts ++ token kind.Dot p ∷ [])
 
 -- no more arguments and no greater arity than the limit

@@ -1,6 +1,6 @@
 -- The limits on parameters and arguments, as tests.
 use Rattle.std.specs.Prelude.{nat_le, Bool, true, ◌&&◌}
-use Rattle.ef_forms.specs.Tree.{Tree, Shape, Trees, Guards, Clauses, tree, int, atom, var, call, remote, end, more, no_guard, or_guard, no_clauses, clause, count}
+use Rattle.ef_forms.specs.Tree.{Tree, Shape, Trees, Guards, Clauses, tree, int, atom, var, any, list, list_to, tuple, matching, call, remote, end, more, no_guard, or_guard, no_clauses, clause, count}
 use Rattle.ef_forms.specs.Built.{most_arguments}
 
 abbrev mutual
@@ -11,6 +11,11 @@ abbrev mutual
   narrow_shape (int i) = true
   narrow_shape (atom n) = true
   narrow_shape (var n) = true
+  narrow_shape any = true
+  narrow_shape (list es) = narrow_all es
+  narrow_shape (list_to es e) = narrow_all es && narrow e
+  narrow_shape (tuple es) = narrow_all es
+  narrow_shape (matching p e) = narrow p && narrow e
   narrow_shape (call f es) = narrow f && (nat_le (count es) most_arguments && narrow_all es)
   narrow_shape (remote m f es) = narrow m && (narrow f && (nat_le (count es) most_arguments && narrow_all es))
 

@@ -1,12 +1,10 @@
 -- What is answered for the tokens of a form and of a module.
-use Rattle.std.specs.Prelude.{ℕ, ◌≡◌, ◌≤◌, Bool, true, false, ◌&&◌, if◌then◌else◌, List, [], ◌∷◌, Option, Some, None, Vec, map}
+use Rattle.std.specs.Prelude.{ℕ, ◌≡◌, ◌≤◌, ◌⊎◌, Bool, true, false, ◌&&◌, if◌then◌else◌, List, [], ◌∷◌, Option, Some, None, Vec, map}
 use Rattle.std.specs.declared.alloc.Global.{Global}
 use Rattle.ef_base.specs.declared.fault.Fault.{Fault}
 use Rattle.ef_base.specs.declared.name.Name.{Name}
 use Rattle.ef_base.specs.Texts.{Texts, Extends}
 use Rattle.ef_token.specs.declared.token.Token.{Token}
-use Rattle.ef_token.specs.declared.token.TokenKind.{TokenKind}
-use Rattle.ef_token.specs.declared.token.TokenKind.TheVariants as kind
 use Rattle.ef_forms.specs.declared.form.Form.{Form}
 use Rattle.ef_forms.specs.declared.form.PlacedForm.{PlacedForm}
 use Rattle.ef_forms.specs.declared.form.Module.{Module}
@@ -14,6 +12,7 @@ use Rattle.ef_forms.specs.Tree.{Clauses, FormTree, PlacedTree, ModuleTree, modul
 use Rattle.ef_forms.specs.Plain.{plain_form, plain_placed, plain_module}
 use Rattle.ef_forms.specs.Built.{AreNarrowClauses}
 use Rattle.ef_parse.specs.Grammar.{start_of, SpellsClauses}
+use Rattle.ef_parse.specs.Reads.{first_name}
 use Rattle.ef_module.specs.declared.ahead.Ahead.{Ahead}
 use Rattle.ef_module.specs.declared.ahead.Ahead.TheVariants as ahead
 use Rattle.ef_module.specs.declared.forms.FormRefusal.{FormRefusal}
@@ -56,28 +55,26 @@ is_attribute (t ∷ ts) = is_minus (seen t.kind)
 
 -- ---- functions
 
-abbrev pub name_of_kind : TokenKind → Option Name
-name_of_kind (kind.Atom n) = Some n
-name_of_kind _ = None
-
--- the name that the first token is
-abbrev pub first_name : List Token → Option Name
-first_name [] = None
-first_name (t ∷ ts) = name_of_kind t.kind
-
 -- the tokens before the full stop spell these clauses of this name, within the limits
-pub record ReadsFunction (n : Name) (cs : Clauses) (ts : List Token) : Type 0 where
+pub record SpellsFunction (all : Texts) (n : Name) (cs : Clauses) (ts : List Token) : Type 0 where
   pub nesting : ℕ
   pub within : nesting ≤ most_nesting
-  pub spelled : SpellsClauses n cs nesting ts
+  pub spelled : SpellsClauses all n cs nesting ts
   pub narrow : AreNarrowClauses cs
 
 abbrev pub function_of : Name → Clauses → List Token → FormTree
 function_of n cs ts = function (record { place = start_of ts; name = n; arity = arity_of cs; clauses = cs })
 
-abbrev pub IsReadFunction : List Token → Option Form → Type 0
-IsReadFunction ts (Some f) = (n : Name) × (cs : Clauses) × ReadsFunction n cs ts × (plain_form f ≡ function_of n cs ts)
-IsReadFunction ts None = (n : Name) (cs : Clauses) → ReadsFunction n cs ts → ⊥
+-- the one function that they spell, under each later table
+abbrev pub IsReadFunction : Texts → List Token → Option Form → Type 0
+IsReadFunction now ts (Some f) =
+    (n : Name) × (cs : Clauses) × ((all : Texts) → Extends now all → SpellsFunction all n cs ts) × (plain_form f ≡ function_of n cs ts)
+IsReadFunction now ts None = (all : Texts) → Extends now all → (n : Name) (cs : Clauses) → SpellsFunction all n cs ts → ⊥
+
+-- the function of these clauses, by the name that the first token is, if they are within the limits
+abbrev pub IsFunctionOf : Clauses → List Token → Option Form → Type 0
+IsFunctionOf cs ts (Some f) = (n : Name) × (first_name ts ≡ Some n) × AreNarrowClauses cs × (plain_form f ≡ function_of n cs ts)
+IsFunctionOf cs ts None = (first_name ts ≡ None) ⊎ (AreNarrowClauses cs → ⊥)
 
 -- ---- modules
 

@@ -1,22 +1,22 @@
 // Functions.
 ghost use Rattle.std.specs.Prelude.{◌≡◌, IfOk};
-ghost use Rattle.ef_token.specs.TokenForm.{IsForm};
+ghost use Rattle.ef_token.specs.TokenForm.{TokensOf};
 ghost use Rattle.ef_forms.specs.Plain.{plain_clauses};
 ghost use Rattle.ef_forms.specs.Built.{AreNarrowClauses};
-ghost use Rattle.ef_parse.specs.Reads.{ReadsClauses};
 ghost use Rattle.ef_module.specs.Forms.{arity_of};
-ghost use Rattle.ef_module.specs.Read.{IsReadFunction, first_name, name_of_kind};
+ghost use Rattle.ef_module.specs.Read.{IsReadFunction, IsFunctionOf};
 
 use crate::narrow::are_narrow_clauses;
-use ef_base::{Name, Names, NoMemory, Refusal};
+use ef_base::{Names, NoMemory, Refusal};
 use ef_forms::{Clause, Form, Function};
-use ef_parse::{clauses, start_of};
-use ef_token::{Token, TokenKind};
+use ef_parse::{clauses, first_name, start_of};
+use ef_token::Token;
 use std::alloc::Global;
 
 /// The function that the tokens spell within the limits, if they do. They have no full stop.
 pub fn function(alloc: Global, names: &Names, tokens: &[Token]) -> Result<Option<Form>, NoMemory>
-    ensures { IfOk result (λ made. IsReadFunction tokens.now made) }
+    requires { TokensOf names.now tokens.now }
+    ensures { IfOk result (λ made. IsReadFunction names.now tokens.now made) }
 {
     match clauses(alloc, names, tokens) {
         Ok(clauses) => Ok(function_of(tokens, clauses)),
@@ -27,8 +27,7 @@ pub fn function(alloc: Global, names: &Names, tokens: &[Token]) -> Result<Option
 
 /// The function of these clauses, if they are within the limits.
 fn function_of(tokens: &[Token], clauses: Vec<Clause>) -> Option<Form>
-    requires { ReadsClauses (plain_clauses clauses.items) tokens.now }
-    ensures { IsReadFunction tokens.now result }
+    ensures { IsFunctionOf (plain_clauses clauses.items) tokens.now result }
 {
     if !are_narrow_clauses(clauses.as_slice()) {
         return None;
@@ -40,24 +39,6 @@ fn function_of(tokens: &[Token], clauses: Vec<Clause>) -> Option<Form>
         arity: arity_of(clauses.as_slice()),
         clauses,
     }))
-}
-
-fn first_name(tokens: &[Token]) -> Option<Name>
-    ensures { result ≡ first_name tokens.now }
-{
-    match tokens.first() {
-        Some(token) => name_of_kind(&token.kind),
-        None => None,
-    }
-}
-
-fn name_of_kind(kind: &TokenKind) -> Option<Name>
-    ensures { result ≡ name_of_kind kind.now }
-{
-    match kind {
-        TokenKind::Atom(name) => Some(*name),
-        _ => None,
-    }
 }
 
 /// The number of patterns of the first clause.

@@ -15,7 +15,14 @@ fn is_narrow(expr: &Expr) -> bool
     ensures { result ≡ narrow (plain expr.now) }
 {
     match &expr.node {
-        Node::Int(_) | Node::Atom(_) | Node::Var(_) => true,
+        Node::Int(_) | Node::Atom(_) | Node::Var(_) | Node::Any => true,
+        Node::List { items, tail: None } => are_narrow(items.as_slice()),
+        Node::List {
+            items,
+            tail: Some(tail),
+        } => are_narrow(items.as_slice()) && is_narrow(tail),
+        Node::Tuple(items) => are_narrow(items.as_slice()),
+        Node::Match { left, right } => is_narrow(left) && is_narrow(right),
         Node::Call { target, args } => { is_narrow(target) && are_narrow_args(args.as_slice()) }
         Node::Remote {
             module,

@@ -26,6 +26,7 @@ fn kind_of(names: &Names, letter: char) -> TokenKind
         'm' => atom(names, "module"),
         'e' => atom(names, "export"),
         'a' => atom(names, "a"),
+        '_' => variable(names, "_"),
         '1' => TokenKind::Int(1),
         '5' => TokenKind::Int(255),
         '6' => TokenKind::Int(256),
@@ -36,6 +37,10 @@ fn kind_of(names: &Names, letter: char) -> TokenKind
         ']' => TokenKind::Sym(Sym::RightBracket),
         ',' => TokenKind::Sym(Sym::Comma),
         '/' => TokenKind::Sym(Sym::Slash),
+        '{' => TokenKind::Sym(Sym::LeftBrace),
+        '}' => TokenKind::Sym(Sym::RightBrace),
+        '=' => TokenKind::Sym(Sym::Match),
+        ';' => TokenKind::Sym(Sym::Semicolon),
         '>' => TokenKind::Sym(Sym::Arrow),
         _ => TokenKind::Sym(Sym::Bar),
     }
@@ -47,6 +52,16 @@ fn atom(names: &Names, text: &str) -> TokenKind
 {
     match names.find(text) {
         Some(name) => TokenKind::Atom(name),
+        None => TokenKind::Sym(Sym::Bar),
+    }
+}
+
+fn variable(names: &Names, text: &str) -> TokenKind
+    ensures of_table { KindOf names.now result }
+    ensures inner { result ≡ kind_is.Dot → ⊥ }
+{
+    match names.find(text) {
+        Some(name) => TokenKind::Var(name),
         None => TokenKind::Sym(Sym::Bar),
     }
 }
@@ -71,6 +86,7 @@ fn table(alloc: Global) -> Result<Names, Fail> {
     names.intern("module")?;
     names.intern("export")?;
     names.intern("a")?;
+    names.intern("_")?;
     Ok(names)
 }
 
@@ -94,6 +110,11 @@ fn forms(rt: HostRuntime) -> Result<(), Fail> {
         ("-e([])", ('e', 0)),
         ("-e([a/1,e/5])", ('e', 2)),
         ("a(a,a)>a()", ('f', 1)),
+        ("a([a|_],{a,_})>a=[]", ('f', 1)),
+        ("a(a)>1;a(_)>{a};a([])>_", ('f', 3)),
+        ("a(a)>1;e(_)>1", ('!', 1)),
+        ("a()>1;", ('!', 1)),
+        ("a([a|])>1", ('!', 1)),
         ("-a(a)", ('!', 1)),
         ("-m(a)|", ('!', 1)),
         ("-m([])", ('!', 1)),

@@ -1,10 +1,13 @@
 pub mod Plain
-pub mod Depths
 pub mod Stack
 pub mod Parts
+pub mod Depths
+pub mod OfTable
+pub mod Later
+pub mod Seen
 pub mod Complete
+pub mod Open
 pub mod Sound
 pub mod One
-pub mod OfTable
 pub mod Runs
 pub mod Answered

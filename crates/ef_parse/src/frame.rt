@@ -1,29 +1,36 @@
 // What is open while tokens are read.
+use crate::group::Group;
 use crate::part::{Part, Parts};
-use ef_base::Place;
+use ef_base::{Name, Place};
 
-/// What a list of items belongs to. A clause stands at its first token.
+/// What a list of items belongs to. Lists, tuples and clauses stand at their first tokens. `Head` and `Body` are the
+/// patterns and the body of a clause, with the name of its function and the clauses before.
 #[derive(Drop)]
 pub enum Opener {
     Call(Part),
     Remote(Part, Part),
-    Head(Place),
-    Body(Place, Parts),
+    List(Place),
+    Tuple(Place),
+    Head(Name, Group, Place),
+    Body(Name, Group, Place, Parts),
 }
 
 #[derive(Drop)]
 pub enum Frame {
     InParens(Place),
     AfterColon(Part),
+    AfterMatch(Part),
     InList(Opener, Parts),
+    /// The tail of a list, with the place and the items of the list.
+    InTail(Place, Parts),
 }
 
-/// What comes next. `Have` has what is read and its level.
+/// What comes next. `Have` has what is read and its level, `NeedName` the name of the function and its clauses before.
 #[derive(Drop)]
 pub enum Mode {
     Need,
     Have(Part, u8),
-    NeedName,
+    NeedName(Name, Group),
     NeedHead,
     NeedArrow,
 }
@@ -32,13 +39,14 @@ pub enum Mode {
 #[derive(Drop)]
 pub enum Outcome {
     Expression(Part),
-    Clause(Place, Parts, Parts),
+    Function(Group),
     Refused,
 }
 
-/// What a step did: it took the token, or the run is over.
+/// What a step did: it left the token, or took it, or the run is over.
 #[derive(Drop)]
 pub enum Advance {
+    Keep(Mode),
     Take(Mode),
     Done(Outcome),
 }

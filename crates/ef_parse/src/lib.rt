@@ -3,11 +3,12 @@
 
 mod ahead;
 mod frame;
+mod group;
 mod parse;
 mod part;
 mod step;
 
-pub use ahead::start_of;
+pub use ahead::{first_name, start_of};
 pub use parse::{clauses, expression};
 
 #[cfg(test)]

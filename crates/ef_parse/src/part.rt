@@ -71,6 +71,90 @@ pub fn no_parts(alloc: Global) -> Parts
     }
 }
 
+/// The list of the items, whose bracket stands at `start`.
+#[tactic(auto, using(crate::proofs::Plain::laws))]
+pub fn list(start: Place, items: Parts) -> Part
+    ensures { part result ≡ m.enclosed 128 t.list start (parts items) }
+{
+    match items {
+        Parts::Built { exprs, nesting } if nesting < LIMIT => {
+            let node = Node::List {
+                items: exprs,
+                tail: None,
+            };
+            part_of(start, Expr { place: start, node }, nesting + 1)
+        }
+        _ => Part::Deep,
+    }
+}
+
+/// The list of the items with this tail, whose bracket stands at `start`.
+#[tactic(auto, using(crate::proofs::Plain::laws))]
+pub fn tailed(alloc: Global, start: Place, items: Parts, tail: Part) -> Result<Part, NoMemory>
+    ensures { IfOk result (λ q. part q ≡ m.tailed 128 start (parts items) (part tail)) }
+{
+    match (items, tail) {
+        (
+            Parts::Built {
+                exprs,
+                nesting: most,
+            },
+            Part::Built { expr, nesting, .. },
+        ) if most < LIMIT && nesting < LIMIT => {
+            let node = Node::List {
+                items: exprs,
+                tail: Some(Box::new(alloc, expr)?),
+            };
+            let list = Expr { place: start, node };
+            Ok(part_of(start, list, most.max(nesting) + 1))
+        }
+        _ => Ok(Part::Deep),
+    }
+}
+
+/// The tuple of the items, whose brace stands at `start`.
+#[tactic(auto, using(crate::proofs::Plain::laws))]
+pub fn tuple(start: Place, items: Parts) -> Part
+    ensures { part result ≡ m.enclosed 128 t.tuple start (parts items) }
+{
+    match items {
+        Parts::Built { exprs, nesting } if nesting < LIMIT => {
+            let node = Node::Tuple(exprs);
+            part_of(start, Expr { place: start, node }, nesting + 1)
+        }
+        _ => Part::Deep,
+    }
+}
+
+/// The match, at the first token of its left side.
+#[tactic(auto, using(crate::proofs::Plain::laws))]
+pub fn matched(alloc: Global, left: Part, right: Part) -> Result<Part, NoMemory>
+    ensures { IfOk result (λ q. part q ≡ m.matched 128 (part left) (part right)) }
+{
+    match (left, right) {
+        (
+            Part::Built {
+                start,
+                expr,
+                nesting,
+            },
+            Part::Built {
+                expr: value,
+                nesting: own,
+                ..
+            },
+        ) if nesting < LIMIT && own < LIMIT => {
+            let node = Node::Match {
+                left: Box::new(alloc, expr)?,
+                right: Box::new(alloc, value)?,
+            };
+            let whole = Expr { place: start, node };
+            Ok(part_of(start, whole, nesting.max(own) + 1))
+        }
+        _ => Ok(Part::Deep),
+    }
+}
+
 #[tactic(auto, using(crate::proofs::Plain::laws))]
 pub fn put_in(items: Parts, item: Part) -> Result<Parts, NoMemory>
     ensures { IfOk result (λ q. parts q ≡ m.put_in (parts items) (part item)) }

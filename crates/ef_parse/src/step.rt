@@ -2,15 +2,23 @@
 ghost use Rattle.std.specs.Prelude.{◌≡◌, List, IfOk};
 ghost use Rattle.ef_parse.specs.Machine as m;
 ghost use Rattle.ef_forms.specs.Plain.{plain};
-ghost use Rattle.ef_parse.specs.Shown.{done, frames, mode, opener, outcome, part, parts};
+ghost use Rattle.ef_parse.specs.Shown.{done, frame, frames, group, mode, opener, outcome, part, parts};
 ghost use Rattle.ef_parse.specs.declared.frame.Frame.{Frame as Kept};
+ghost use Rattle.ef_parse.specs.declared.ahead.Ahead.TheVariants as ahead_is;
+ghost use Rattle.ef_parse.specs.declared.ahead.Bracket.TheVariants as bracket_is;
 
-use crate::ahead::Ahead;
+use crate::ahead::{Ahead, Bracket};
 use crate::frame::{Advance, Frame, Mode, Opener, Outcome};
-use crate::part::{Part, Parts, called, called_in, is_none, leaf, no_parts, parenthesised, put_in};
-use ef_base::{NoMemory, Place};
+use crate::group::{Group, put_clause};
+use crate::part::{
+    Part, Parts, called, called_in, is_none, leaf, list, matched, no_parts, parenthesised, put_in,
+    tailed, tuple,
+};
+use ef_base::{Name, NoMemory, Place};
 use ef_forms::Node;
 use std::alloc::Global;
+
+const MATCH_LEVEL: u8 = 1;
 
 const CALL_LEVEL: u8 = 9;
 
@@ -18,13 +26,13 @@ const MAX_LEVEL: u8 = 11;
 
 /// The parenthesis ends the list.
 #[tactic(auto, using(crate::proofs::Stack::laws))]
-fn ended(
+fn parens_ended(
     alloc: Global,
     stack: &mut Vec<Frame>,
     of: Opener,
     items: Parts,
 ) -> Result<Advance, NoMemory>
-    ensures { IfOk result (λ a. done a stack.new.items ≡ m.ended 128 (opener of) (parts items) (frames stack.old.items)) }
+    ensures { IfOk result (λ a. done a stack.new.items ≡ m.ended 128 bracket_is.Round (opener of) (parts items) (frames stack.old.items)) }
 {
     match of {
         Opener::Call(target) => Ok(Advance::Take(Mode::Have(
@@ -35,11 +43,107 @@ fn ended(
             called_in(alloc, module, function, items)?,
             CALL_LEVEL,
         ))),
-        Opener::Head(start) => {
-            stack.push(Frame::InList(Opener::Body(start, items), no_parts(alloc)))?;
+        Opener::Head(name, before, start) => {
+            let body = Opener::Body(name, before, start, items);
+            stack.push(Frame::InList(body, no_parts(alloc)))?;
             Ok(Advance::Take(Mode::NeedArrow))
         }
-        Opener::Body(_, _) => Ok(Advance::Done(Outcome::Refused)),
+        _ => Ok(Advance::Done(Outcome::Refused)),
+    }
+}
+
+/// The square bracket ends the list.
+fn list_ended(of: Opener, items: Parts) -> Advance
+    ensures { (K : List Kept) → done result K ≡ m.ended 128 bracket_is.Square (opener of) (parts items) (frames K) }
+{
+    match of {
+        Opener::List(start) => Advance::Take(Mode::Have(list(start, items), MAX_LEVEL)),
+        _ => Advance::Done(Outcome::Refused),
+    }
+}
+
+/// The brace ends the list.
+fn tuple_ended(of: Opener, items: Parts) -> Advance
+    ensures { (K : List Kept) → done result K ≡ m.ended 128 bracket_is.Curly (opener of) (parts items) (frames K) }
+{
+    match of {
+        Opener::Tuple(start) => Advance::Take(Mode::Have(tuple(start, items), MAX_LEVEL)),
+        _ => Advance::Done(Outcome::Refused),
+    }
+}
+
+/// The bracket ends the list.
+fn ended(
+    alloc: Global,
+    stack: &mut Vec<Frame>,
+    bracket: Bracket,
+    of: Opener,
+    items: Parts,
+) -> Result<Advance, NoMemory>
+    ensures { IfOk result (λ a. done a stack.new.items ≡ m.ended 128 bracket (opener of) (parts items) (frames stack.old.items)) }
+{
+    match bracket {
+        Bracket::Round => parens_ended(alloc, stack, of, items),
+        Bracket::Square => Ok(list_ended(of, items)),
+        Bracket::Curly => Ok(tuple_ended(of, items)),
+    }
+}
+
+/// The bracket ends a list without items.
+#[tactic(auto, using(crate::proofs::Stack::laws))]
+fn ended_empty(alloc: Global, stack: &mut Vec<Frame>, bracket: Bracket) -> Result<Advance, NoMemory>
+    ensures { IfOk result (λ a. done a stack.new.items ≡ m.ended_empty 128 bracket (frames stack.old.items)) }
+{
+    match stack.pop() {
+        Some(Frame::InList(of, items)) => {
+            if is_none(&items) {
+                ended(alloc, stack, bracket, of, items)
+            } else {
+                Ok(Advance::Done(Outcome::Refused))
+            }
+        }
+        Some(_other) => Ok(Advance::Done(Outcome::Refused)),
+        None => Ok(Advance::Done(Outcome::Refused)),
+    }
+}
+
+/// The tail of a list follows.
+#[tactic(auto, using(crate::proofs::Stack::laws))]
+fn barred(stack: &mut Vec<Frame>, of: Opener, items: Parts) -> Result<Advance, NoMemory>
+    ensures { IfOk result (λ a. done a stack.new.items ≡ m.barred 128 (opener of) (parts items) (frames stack.old.items)) }
+{
+    match of {
+        Opener::List(start) => {
+            stack.push(Frame::InTail(start, items))?;
+            Ok(Advance::Take(Mode::Need))
+        }
+        _ => Ok(Advance::Done(Outcome::Refused)),
+    }
+}
+
+/// Another clause follows.
+fn followed(alloc: Global, of: Opener, items: Parts) -> Result<Advance, NoMemory>
+    ensures { IfOk result (λ a. (K : List Kept) → done a K ≡ m.followed 128 (opener of) (parts items) (frames K)) }
+{
+    match of {
+        Opener::Body(name, before, start, patterns) => {
+            let clauses = put_clause(alloc, before, start, patterns, items)?;
+            Ok(Advance::Take(Mode::NeedName(name, clauses)))
+        }
+        _ => Ok(Advance::Done(Outcome::Refused)),
+    }
+}
+
+/// No token is left behind the list.
+fn finished(alloc: Global, of: Opener, items: Parts) -> Result<Advance, NoMemory>
+    ensures { IfOk result (λ a. (K : List Kept) → done a K ≡ m.finished 128 (opener of) (parts items)) }
+{
+    match of {
+        Opener::Body(_name, before, start, patterns) => {
+            let clauses = put_clause(alloc, before, start, patterns, items)?;
+            Ok(Advance::Done(Outcome::Function(clauses)))
+        }
+        _ => Ok(Advance::Done(Outcome::Refused)),
     }
 }
 
@@ -59,19 +163,43 @@ fn listed(
             stack.push(Frame::InList(of, items))?;
             Ok(Advance::Take(Mode::Need))
         }
-        Ahead::RightParen => ended(alloc, stack, of, items),
-        Ahead::End => Ok(Advance::Done(finished(of, items))),
+        Ahead::Close(bracket) => ended(alloc, stack, bracket, of, items),
+        Ahead::Bar => barred(stack, of, items),
+        Ahead::Semicolon => followed(alloc, of, items),
+        Ahead::End => finished(alloc, of, items),
         _ => Ok(Advance::Done(Outcome::Refused)),
     }
 }
 
-/// No token is left behind the list.
-fn finished(of: Opener, items: Parts) -> Outcome
-    ensures { m.Over (outcome result) ≡ m.finished 128 (opener of) (parts items) }
+/// The expression in parentheses is read, the first of which stands at `start`.
+fn unwrapped(start: Place, read: Part, ahead: Ahead) -> Advance
+    ensures { (K : List Kept) → done result K ≡ m.unwrapped 128 start (part read) (frames K) ahead }
 {
-    match of {
-        Opener::Body(start, patterns) => Outcome::Clause(start, patterns, items),
-        _ => Outcome::Refused,
+    match ahead {
+        Ahead::Close(Bracket::Round) => Advance::Take(Mode::Have(
+            parenthesised(start, read),
+            MAX_LEVEL,
+        )),
+        _ => Advance::Done(Outcome::Refused),
+    }
+}
+
+/// The tail of a list is read.
+fn tail_read(
+    alloc: Global,
+    start: Place,
+    items: Parts,
+    read: Part,
+    ahead: Ahead,
+) -> Result<Advance, NoMemory>
+    ensures { IfOk result (λ a. (K : List Kept) → done a K ≡ m.tail_read 128 start (parts items) (part read) (frames K) ahead) }
+{
+    match ahead {
+        Ahead::Close(Bracket::Square) => Ok(Advance::Take(Mode::Have(
+            tailed(alloc, start, items, read)?,
+            MAX_LEVEL,
+        ))),
+        _ => Ok(Advance::Done(Outcome::Refused)),
     }
 }
 
@@ -90,15 +218,14 @@ fn close(
             Ahead::End => Ok(Advance::Done(Outcome::Expression(read))),
             _ => Ok(Advance::Done(Outcome::Refused)),
         },
-        Some(Frame::InParens(start)) => match ahead {
-            Ahead::RightParen => Ok(Advance::Take(Mode::Have(
-                parenthesised(start, read),
-                MAX_LEVEL,
-            ))),
-            _ => Ok(Advance::Done(Outcome::Refused)),
-        },
+        Some(Frame::InParens(start)) => Ok(unwrapped(start, read, ahead)),
         Some(Frame::AfterColon(_)) => Ok(Advance::Done(Outcome::Refused)),
+        Some(Frame::AfterMatch(left)) => Ok(Advance::Keep(Mode::Have(
+            matched(alloc, left, read)?,
+            MATCH_LEVEL,
+        ))),
         Some(Frame::InList(of, items)) => listed(alloc, stack, of, put_in(items, read)?, ahead),
+        Some(Frame::InTail(start, items)) => tail_read(alloc, start, items, read, ahead),
     }
 }
 
@@ -119,15 +246,15 @@ fn opened(alloc: Global, stack: &mut Vec<Frame>, read: Part) -> Result<Advance, 
     Ok(Advance::Take(Mode::Need))
 }
 
-/// A colon behind an expression of the greatest level.
+/// A colon or an equals sign behind an expression: its frame, but not on that of another colon.
 #[tactic(auto, using(crate::proofs::Stack::laws))]
-fn qualified(stack: &mut Vec<Frame>, read: Part) -> Result<Advance, NoMemory>
-    ensures { IfOk result (λ a. done a stack.new.items ≡ m.qualified 128 (part read) (frames stack.old.items)) }
+fn pushed(stack: &mut Vec<Frame>, made: Frame) -> Result<Advance, NoMemory>
+    ensures { IfOk result (λ a. done a stack.new.items ≡ m.pushed 128 (frame made) (frames stack.old.items)) }
 {
     if let Some(Frame::AfterColon(_)) = stack.last() {
         return Ok(Advance::Done(Outcome::Refused));
     }
-    stack.push(Frame::AfterColon(read))?;
+    stack.push(made)?;
     Ok(Advance::Take(Mode::Need))
 }
 
@@ -143,28 +270,13 @@ fn go_on(
     ensures { IfOk result (λ a. done a stack.new.items ≡ m.go_on 128 (part read) level (frames stack.old.items) ahead) }
 {
     match ahead {
-        Ahead::LeftParen if level >= MAX_LEVEL => opened(alloc, stack, read),
-        Ahead::Colon if level >= MAX_LEVEL => qualified(stack, read),
-        Ahead::LeftParen | Ahead::Colon => Ok(Advance::Done(Outcome::Refused)),
-        _ => close(alloc, stack, read, ahead),
-    }
-}
-
-/// The parenthesis ends a list without items.
-#[tactic(auto, using(crate::proofs::Stack::laws))]
-fn ended_empty(alloc: Global, stack: &mut Vec<Frame>) -> Result<Advance, NoMemory>
-    ensures { IfOk result (λ a. done a stack.new.items ≡ m.ended_empty 128 (frames stack.old.items)) }
-{
-    match stack.pop() {
-        Some(Frame::InList(of, items)) => {
-            if is_none(&items) {
-                ended(alloc, stack, of, items)
-            } else {
-                Ok(Advance::Done(Outcome::Refused))
-            }
+        Ahead::Open(Bracket::Round) if level >= MAX_LEVEL => opened(alloc, stack, read),
+        Ahead::Colon if level >= MAX_LEVEL => pushed(stack, Frame::AfterColon(read)),
+        Ahead::Match if level > MATCH_LEVEL => pushed(stack, Frame::AfterMatch(read)),
+        Ahead::Open(Bracket::Round) | Ahead::Colon | Ahead::Match => {
+            Ok(Advance::Done(Outcome::Refused))
         }
-        Some(_other) => Ok(Advance::Done(Outcome::Refused)),
-        None => Ok(Advance::Done(Outcome::Refused)),
+        _ => close(alloc, stack, read, ahead),
     }
 }
 
@@ -173,6 +285,25 @@ fn single(place: Place, node: Node) -> Advance
     ensures { (K : List Kept) → done result K ≡ m.Take (m.Have (m.part_of 128 place (plain (record { place = place; node = node })) 1) 11) (frames K) }
 {
     Advance::Take(Mode::Have(leaf(place, node), MAX_LEVEL))
+}
+
+/// The bracket begins an expression.
+#[tactic(auto, using(crate::proofs::Stack::laws))]
+fn bracketed(
+    alloc: Global,
+    stack: &mut Vec<Frame>,
+    bracket: Bracket,
+    place: Place,
+) -> Result<Advance, NoMemory>
+    ensures { IfOk result (λ a. done a stack.new.items ≡ m.begin 128 (frames stack.old.items) (ahead_is.Open bracket) place) }
+{
+    let made = match bracket {
+        Bracket::Round => Frame::InParens(place),
+        Bracket::Square => Frame::InList(Opener::List(place), no_parts(alloc)),
+        Bracket::Curly => Frame::InList(Opener::Tuple(place), no_parts(alloc)),
+    };
+    stack.push(made)?;
+    Ok(Advance::Take(Mode::Need))
 }
 
 /// The token begins an expression.
@@ -187,32 +318,35 @@ fn begin(
 {
     match ahead {
         Ahead::Var(name) => Ok(single(place, Node::Var(name))),
+        Ahead::Any => Ok(single(place, Node::Any)),
         Ahead::Atom(name) => Ok(single(place, Node::Atom(name))),
         Ahead::Int(value) => Ok(single(place, Node::Int(value))),
-        Ahead::LeftParen => {
-            stack.push(Frame::InParens(place))?;
-            Ok(Advance::Take(Mode::Need))
-        }
-        Ahead::RightParen => ended_empty(alloc, stack),
+        Ahead::Open(bracket) => bracketed(alloc, stack, bracket, place),
+        Ahead::Close(bracket) => ended_empty(alloc, stack, bracket),
         _ => Ok(Advance::Done(Outcome::Refused)),
     }
 }
 
-/// The token is the name of a function, and begins a clause.
+/// The token is the name of the function, and begins a clause.
 #[tactic(auto, using(crate::proofs::Stack::laws))]
 fn named(
     alloc: Global,
     stack: &mut Vec<Frame>,
+    own: Name,
+    before: Group,
     ahead: Ahead,
     place: Place,
 ) -> Result<Advance, NoMemory>
-    ensures { IfOk result (λ a. done a stack.new.items ≡ m.named 128 (frames stack.old.items) ahead place) }
+    ensures { IfOk result (λ a. done a stack.new.items ≡ m.named 128 own (group before) (frames stack.old.items) ahead place) }
 {
-    let Ahead::Atom(_) = ahead else {
-        return Ok(Advance::Done(Outcome::Refused));
-    };
-    stack.push(Frame::InList(Opener::Head(place), no_parts(alloc)))?;
-    Ok(Advance::Take(Mode::NeedHead))
+    match ahead {
+        Ahead::Atom(name) if name.index == own.index => {
+            let head = Opener::Head(own, before, place);
+            stack.push(Frame::InList(head, no_parts(alloc)))?;
+            Ok(Advance::Take(Mode::NeedHead))
+        }
+        _ => Ok(Advance::Done(Outcome::Refused)),
+    }
 }
 
 /// The token takes the parser from its mode to the next.
@@ -228,9 +362,9 @@ pub fn step(
     match from {
         Mode::Need => begin(alloc, stack, ahead, place),
         Mode::Have(read, level) => go_on(alloc, stack, read, level, ahead),
-        Mode::NeedName => named(alloc, stack, ahead, place),
+        Mode::NeedName(own, before) => named(alloc, stack, own, before, ahead, place),
         Mode::NeedHead => match ahead {
-            Ahead::LeftParen => Ok(Advance::Take(Mode::Need)),
+            Ahead::Open(Bracket::Round) => Ok(Advance::Take(Mode::Need)),
             _ => Ok(Advance::Done(Outcome::Refused)),
         },
         Mode::NeedArrow => match ahead {

@@ -1,31 +1,70 @@
 // Expressions and clauses by their tokens.
+ghost use Rattle.std.specs.Prelude.{IfOk};
+ghost use Rattle.ef_base.specs.Texts.{Texts};
+ghost use Rattle.ef_token.specs.TokenForm.{KindOf, TokensOf};
+
 use crate::{clauses, expression};
-use ef_base::{Name, Names, Place, Refusal};
-use ef_forms::{Expr, Node};
+use ef_base::{Names, Place, Refusal};
+use ef_forms::{Expr, Node, weight};
 use ef_token::{Sym, Token, TokenKind};
 use std::alloc::{AllocError, Global};
 use std::test::Fail;
 
-const ATOM: Name = Name { index: 0 };
-
-const VARIABLE: Name = Name { index: 1 };
-
-fn kind_of(letter: char) -> TokenKind {
+fn kind_of(names: &Names, letter: char) -> TokenKind
+    ensures { KindOf names.now result }
+{
     match letter {
-        'a' => TokenKind::Atom(ATOM),
-        'X' => TokenKind::Var(VARIABLE),
+        'a' => atom(names, "a"),
+        'b' => atom(names, "b"),
+        'X' => variable(names, "X"),
+        '_' => variable(names, "_"),
         '1' => TokenKind::Int(1),
+        _ => symbol(letter),
+    }
+}
+
+fn atom(names: &Names, text: &str) -> TokenKind
+    ensures { KindOf names.now result }
+{
+    match names.find(text) {
+        Some(name) => TokenKind::Atom(name),
+        None => TokenKind::Dot,
+    }
+}
+
+fn variable(names: &Names, text: &str) -> TokenKind
+    ensures { KindOf names.now result }
+{
+    match names.find(text) {
+        Some(name) => TokenKind::Var(name),
+        None => TokenKind::Dot,
+    }
+}
+
+fn symbol(letter: char) -> TokenKind
+    ensures { (all : Texts) → KindOf all result }
+{
+    match letter {
         '(' => TokenKind::Sym(Sym::LeftParen),
         ')' => TokenKind::Sym(Sym::RightParen),
+        '[' => TokenKind::Sym(Sym::LeftBracket),
+        ']' => TokenKind::Sym(Sym::RightBracket),
+        '{' => TokenKind::Sym(Sym::LeftBrace),
+        '}' => TokenKind::Sym(Sym::RightBrace),
         ',' => TokenKind::Sym(Sym::Comma),
+        ';' => TokenKind::Sym(Sym::Semicolon),
+        '|' => TokenKind::Sym(Sym::Bar),
         ':' => TokenKind::Sym(Sym::Colon),
+        '=' => TokenKind::Sym(Sym::Match),
         '>' => TokenKind::Sym(Sym::Arrow),
         _ => TokenKind::Dot,
     }
 }
 
 // One token a letter, the first in column 1.
-fn tokens(alloc: Global, text: &str) -> Result<Vec<Token>, AllocError> {
+fn tokens(alloc: Global, names: &Names, text: &str) -> Result<Vec<Token>, AllocError>
+    ensures { IfOk result (λ ts. TokensOf names.now ts.items) }
+{
     let mut tokens = Vec::new(alloc);
     let mut column = 1;
     for letter in text.chars() {
@@ -34,59 +73,81 @@ fn tokens(alloc: Global, text: &str) -> Result<Vec<Token>, AllocError> {
             line: 1,
             column,
         };
-        tokens.push(Token {
-            kind: kind_of(letter),
-            place,
-        })?;
+        let kind = kind_of(names, letter);
+        tokens.push(Token { kind, place })?;
         column = column.wrapping_add(1);
     }
     Ok(tokens)
 }
 
-// What an expression is, and where: `c` a call, `r` a remote call.
+fn table(alloc: Global) -> Result<Names, Fail> {
+    let mut names = Names::new(alloc);
+    names.intern("a")?;
+    names.intern("b")?;
+    names.intern("X")?;
+    names.intern("_")?;
+    Ok(names)
+}
+
+// What an expression is, and where: `l` a list, `|` a list with a tail, `t` a tuple, `=` a match, `c` a call, `r` a
+// remote call.
 fn shape(expr: &Expr) -> (char, u32) {
     let letter = match &expr.node {
         Node::Int(_) => '1',
         Node::Atom(_) => 'a',
         Node::Var(_) => 'X',
+        Node::Any => '_',
+        Node::List { tail: None, .. } => 'l',
+        Node::List { tail: Some(_), .. } => '|',
+        Node::Tuple(_) => 't',
+        Node::Match { .. } => '=',
         Node::Call { .. } => 'c',
         Node::Remote { .. } => 'r',
     };
     (letter, expr.place.column)
 }
 
-fn read(alloc: Global, text: &str) -> Result<(char, u32), Fail> {
-    let names = Names::new(alloc);
-    let tokens = tokens(alloc, text)?;
-    match expression(alloc, &names, tokens.as_slice()) {
-        Ok(expr) => Ok(shape(&expr)),
-        Err(Refusal::Faulty(fault)) if fault.code == 301 => Ok(('s', fault.place.column)),
-        Err(Refusal::Faulty(fault)) => Ok(('d', fault.place.column)),
-        Err(Refusal::NoMemory) => Ok(('m', 0)),
-    }
+// The shape of the expression and its weight, or the fault's kind and place.
+fn read(alloc: Global, text: &str) -> Result<(char, u32, u64), Fail> {
+    let names = table(alloc)?;
+    let tokens = tokens(alloc, &names, text)?;
+    Ok(match expression(alloc, &names, tokens.as_slice()) {
+        Ok(expr) => {
+            let (letter, column) = shape(&expr);
+            (letter, column, weight(&expr, &[]))
+        }
+        Err(Refusal::Faulty(fault)) if fault.code == 301 => ('s', fault.place.column, 0),
+        Err(Refusal::Faulty(fault)) => ('d', fault.place.column, 0),
+        Err(Refusal::NoMemory) => ('m', 0, 0),
+    })
 }
 
 #[test]
 fn expressions(rt: HostRuntime) -> Result<(), Fail> {
     let table = [
-        ("X", ('X', 1)),
-        ("(a)", ('a', 2)),
-        ("a()", ('c', 1)),
-        ("a(1,X)", ('c', 1)),
-        ("(a)(X)", ('c', 1)),
-        ("((a)(X))", ('c', 2)),
-        ("a:a(1)", ('r', 1)),
-        ("(a):(X)()", ('r', 1)),
-        ("(a(1))(1)", ('c', 1)),
-        ("", ('s', 1)),
-        ("a:a", ('s', 1)),
-        ("a:a:a(1)", ('s', 1)),
-        ("a(1)(1)", ('s', 1)),
-        ("a(1,)", ('s', 1)),
-        ("()", ('s', 1)),
-        ("a(1", ('s', 1)),
-        ("a)", ('s', 1)),
-        ("X.", ('s', 1)),
+        ("X", ('X', 1, 1)),
+        ("_", ('_', 1, 1)),
+        ("(a)", ('a', 2, 1)),
+        ("a()", ('c', 1, 2)),
+        ("a(1,X)", ('c', 1, 4)),
+        ("((a)(X))", ('c', 2, 3)),
+        ("a:a(1)", ('r', 1, 4)),
+        ("(a):(X)()", ('r', 1, 3)),
+        ("(a(1))(1)", ('c', 1, 5)),
+        ("[]", ('l', 1, 1)),
+        ("[1,_,[]]", ('l', 1, 4)),
+        ("([a()])", ('l', 2, 3)),
+        ("[1|X]", ('|', 1, 3)),
+        ("[1,1|[1|X]]", ('|', 1, 6)),
+        ("[a=1|X=1]", ('|', 1, 7)),
+        ("{}", ('t', 1, 1)),
+        ("{a,{_,[]}}", ('t', 1, 5)),
+        ("X=1", ('=', 1, 3)),
+        ("a(X)=1", ('=', 1, 5)),
+        ("[X|_]={1}", ('=', 1, 6)),
+        ("(X=1)=1", ('=', 1, 5)),
+        ("[](1)", ('c', 1, 3)),
+        ("a(X=1,1)", ('c', 1, 6)),
     ];
     for (text, want) in table {
         assert_eq!(rt; read(rt.alloc(), text)?, want, "{text}");
@@ -95,46 +156,129 @@ fn expressions(rt: HostRuntime) -> Result<(), Fail> {
 }
 
 #[test]
-fn nesting(rt: HostRuntime) -> Result<(), Fail> {
-    for (pairs, want) in [(127, ('X', 128)), (128, ('d', 1)), (20000, ('d', 1))] {
-        let mut text = String::new(rt.alloc());
-        for _ in 0..pairs {
-            text.push('(')?;
-        }
-        text.push('X')?;
-        for _ in 0..pairs {
-            text.push(')')?;
-        }
-        assert_eq!(rt; read(rt.alloc(), text.as_str())?, want, "{pairs} pairs");
+fn what_is_no_expression(rt: HostRuntime) -> Result<(), Fail> {
+    let table = [
+        "", "a:a", "a:a:a(1)", "a(1)(1)", "a(1,)", "()", "a(1", "a)", "X.", "[1|]", "[|a]", "[a,]",
+        "{a,}", "[a b]", "[1|1,1]", "[1|1|1]", "{1|1}", "a(1|1)", "[1", "[1)", "{1]", "[1;1]",
+        "a=", "=a", "a:b=1", "X=1=", "X=(1", "a;a", "[]=;", "1 1",
+    ];
+    for text in table {
+        assert_eq!(rt; read(rt.alloc(), text)?, ('s', 1, 0), "{text}");
     }
     Ok(())
+}
+
+// The two sides of a match.
+fn sides(alloc: Global, text: &str) -> Result<Option<((char, u32), (char, u32))>, Fail> {
+    let names = table(alloc)?;
+    let tokens = tokens(alloc, &names, text)?;
+    let Ok(expr) = expression(alloc, &names, tokens.as_slice()) else {
+        return Ok(None);
+    };
+    Ok(match &expr.node {
+        Node::Match { left, right } => Some((shape(left), shape(right))),
+        _ => None,
+    })
+}
+
+#[test]
+fn matches(rt: HostRuntime) -> Result<(), Fail> {
+    let table = [
+        ("X=1", Some((('X', 1), ('1', 3)))),
+        ("X=_=1", Some((('X', 1), ('=', 3)))),
+        ("(X=_)=1", Some((('=', 2), ('1', 7)))),
+        ("{X}=[_|1]", Some((('t', 1), ('|', 5)))),
+        ("X=a(1)", Some((('X', 1), ('c', 3)))),
+        ("a:a(1)=a:a(1)", Some((('r', 1), ('r', 8)))),
+        ("(X=1)", Some((('X', 2), ('1', 4)))),
+        ("a:(X=1)()", None),
+    ];
+    for (text, want) in table {
+        assert_eq!(rt; sides(rt.alloc(), text)?, want, "{text}");
+    }
+    Ok(())
+}
+
+// So many texts, one behind the other, then `X`, and as many others.
+fn nested(alloc: Global, pairs: u32, open: &str, close: &str) -> Result<(char, u32, u64), Fail> {
+    let mut text = String::new(alloc);
+    for _ in 0..pairs {
+        text.push_str(open)?;
+    }
+    text.push('X')?;
+    for _ in 0..pairs {
+        text.push_str(close)?;
+    }
+    read(alloc, text.as_str())
+}
+
+#[test]
+fn nesting(rt: HostRuntime) -> Result<(), Fail> {
+    let table = [
+        (127, "(", ")", ('X', 128, 1)),
+        (128, "(", ")", ('d', 1, 0)),
+        (20000, "(", ")", ('d', 1, 0)),
+        (127, "[", "]", ('l', 1, 128)),
+        (128, "[", "]", ('d', 1, 0)),
+        (127, "[1|", "]", ('|', 1, 255)),
+        (128, "[1|", "]", ('d', 1, 0)),
+        (127, "{", "}", ('t', 1, 128)),
+        (128, "{", "}", ('d', 1, 0)),
+        (127, "a(", ")", ('c', 1, 255)),
+        (128, "a(", ")", ('d', 1, 0)),
+        (127, "X=", "", ('=', 1, 255)),
+        (128, "X=", "", ('d', 1, 0)),
+        (20000, "X=", "", ('d', 1, 0)),
+    ];
+    for (pairs, open, close, want) in table {
+        assert_eq!(rt;
+            nested(rt.alloc(), pairs, open, close)?,
+            want,
+            "{pairs} {open}"
+        );
+    }
+    Ok(())
+}
+
+// How many clauses there are, and how many patterns and expressions the last has.
+fn last_clause(alloc: Global, text: &str) -> Result<Option<(usize, usize, usize)>, Fail> {
+    let names = table(alloc)?;
+    let tokens = tokens(alloc, &names, text)?;
+    let Ok(clauses) = clauses(alloc, &names, tokens.as_slice()) else {
+        return Ok(None);
+    };
+    Ok(match clauses.as_slice() {
+        [.., clause] => Some((clauses.len(), clause.patterns.len(), clause.body.len())),
+        [] => None,
+    })
 }
 
 #[test]
 fn clauses_of_functions(rt: HostRuntime) -> Result<(), Fail> {
     let table = [
-        ("a()>1", Some((0, 1))),
-        ("a(X,X)>a(X),1", Some((2, 2))),
-        ("a(a(1))>X", Some((1, 1))),
+        ("a()>1", Some((1, 0, 1))),
+        ("a(X,[X|_])>a(X),1", Some((1, 2, 2))),
+        ("a(a(1))>X=1", Some((1, 1, 1))),
+        ("a(X)>1;a(_)>X,X", Some((2, 1, 2))),
+        ("a()>1;a(_)>1;a(_,_)>1,1,1", Some((3, 2, 3))),
+        ("a()>1;b()>1", None),
+        ("a()>1;", None),
+        ("a()>1;.", None),
+        ("a();a()>1", None),
+        ("a()>1;1", None),
+        ("a()>1,a()>1", None),
+        ("a()>(1;a()>1)", None),
         ("a>1", None),
         ("X()>1", None),
         ("a()>", None),
         ("a()", None),
+        ("a[]>1", None),
         ("a(1)>1)", None),
         ("a(X,)>1", None),
         ("", None),
     ];
-    let names = Names::new(rt.alloc());
     for (text, want) in table {
-        let tokens = tokens(rt.alloc(), text)?;
-        let seen = match clauses(rt.alloc(), &names, tokens.as_slice()) {
-            Ok(clauses) => match clauses.as_slice() {
-                [clause] => Some((clause.patterns.len(), clause.body.len())),
-                _ => None,
-            },
-            Err(_) => None,
-        };
-        assert_eq!(rt; seen, want, "{text}");
+        assert_eq!(rt; last_clause(rt.alloc(), text)?, want, "{text}");
     }
     Ok(())
 }

@@ -1,6 +1,7 @@
 use Rattle.std.proofs.Common.{subst, sym}
 use Rattle.ef_module.specs.Attribute.{IsAheadOf}
-use Rattle.ef_module.proofs.OfTables.{ahead_of, kind_at}
+use Rattle.ef_module.proofs.OfTables.{ahead_of}
+use Rattle.ef_parse.proofs.OfTable.{kind_at}
 use Rattle.ef_module.proofs.attribute.attribute.Goals as goal
 
 pub step-requires : goal.step-requires

@@ -4,7 +4,7 @@ use Rattle.ef_forms.specs.declared.expr.Clause.{Clause}
 use Rattle.ef_forms.specs.Plain.{plain_clauses}
 use Rattle.ef_forms.specs.Built.{AreNarrowClauses}
 use Rattle.ef_module.specs.Forms.{arity_of}
-use Rattle.ef_module.proofs.Limits.{count_all}
+use Rattle.ef_forms.proofs.Plain.{counted}
 use Rattle.ef_module.proofs.function.arity_of.Goals as goal
 
 first_arity : (cs : List Clause) (c : Clause) → Some c ≡ slice_get cs 0 → AreNarrowClauses (plain_clauses cs)
@@ -13,7 +13,7 @@ first_arity [] c e h = absurd (cc)
 first_arity (x ∷ cs) c e h =
     let is : c ≡ x = cc in
     let n : length c.patterns.items ≡ length x.patterns.items = ap (λ (z : Clause). length z.patterns.items) is in
-    (omega (arith, n, count_all x.patterns.items, h.0), n ∙ sym (count_all x.patterns.items))
+    (omega (arith, n, counted x.patterns.items, h.0), n ∙ sym (counted x.patterns.items))
 
 pub overflow_cast-result : goal.overflow_cast-result
 overflow_cast-result c =

@@ -1,6 +1,7 @@
 use Rattle.std.proofs.Common.{sym, subst, refl}
 use Rattle.ef_token.specs.TokenForm.{IsForm, TokensOf}
-use Rattle.ef_module.proofs.InnerTokens.{AreInner, inner_more, tokens_more, form_with}
+use Rattle.ef_module.proofs.InnerTokens.{AreInner, inner_more, form_with}
+use Rattle.ef_parse.proofs.OfTable.{tokens_more}
 use Rattle.ef_module.proofs.tests.tokens.Goals as goal
 
 pub loop-letter-preserved : goal.loop-letter-preserved

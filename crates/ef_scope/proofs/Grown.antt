@@ -4,7 +4,7 @@ use Rattle.std.specs.Prelude.{◌||◌, ◌&&◌}
 use Rattle.std.specs.List.{flat_map, list_any}
 use Rattle.ef_base.specs.declared.fault.Fault.{Fault}
 use Rattle.ef_base.specs.Faults.{set_of}
-use Rattle.ef_forms.specs.Tree.{Tree, Trees, tree, int, atom, var, call, remote, end, more}
+use Rattle.ef_forms.specs.Tree.{Tree, Trees, tree, int, atom, var, any, list, list_to, tuple, matching, call, remote, end, more}
 use Rattle.ef_forms.specs.Ways.{NameSet, Way, union, stay, bind, before, pairs, beside, ways, shape_ways, side_by_side, no_names, one_name}
 use Rattle.ef_forms.specs.Ways as w
 use Rattle.ef_scope.specs.Bits.{bits_of}
@@ -83,20 +83,6 @@ grows_beside f g a b one two = record {
       ∙ ap (λ z. z || any_has (g s) m) (one.some s m) ∙ ap (λ z. (s m || a m) || z) (two.some s m) ∙ twice (s m) (a m) (b m);
 }
 
-mutual
-  pub grows : (e : Tree) → Grows (ways e) (w.names e)
-  grows (tree p (int i)) = grows_stay
-  grows (tree p (atom n)) = grows_stay
-  grows (tree p (var n)) = grows_bind (one_name n)
-  grows (tree p (call f es)) = grows_beside (ways f) (side_by_side es) (w.names f) (w.all_names es) (grows f) (grows_all es)
-  grows (tree p (remote m f es)) =
-      grows_beside (ways m) (beside (ways f) (side_by_side es)) (w.names m) (union (w.names f) (w.all_names es)) (grows m)
-      (grows_beside (ways f) (side_by_side es) (w.names f) (w.all_names es) (grows f) (grows_all es))
-
-  grows_all : (es : Trees) → Grows (side_by_side es) (w.all_names es)
-  grows_all end = grows_stay
-  grows_all (more e es) = grows_beside (ways e) (side_by_side es) (w.names e) (w.all_names es) (grows e) (grows_all es)
-
 spread : (s n r g : Bool) → ((s || n) || (r || (g && n))) ≡ ((s || r) || (true && n))
 spread s n r g = join s n r g
 
@@ -109,6 +95,37 @@ any_flat f names (s ∷ sets) m grown =
 given_flat : (f : Way) (names : NameSet) (sets : List NameSet) → Grows f names → given sets ≡ true → given (flat_map f sets) ≡ true
 given_flat f names [] grown here = here
 given_flat f names (s ∷ sets) grown here = any_append (λ u. true) (f s) (flat_map f sets) ∙ ap (λ z. z || given (flat_map f sets)) (grown.here s)
+
+behind : (s a b : Bool) → ((s || a) || (true && b)) ≡ (s || (b || a))
+behind true a b = refl
+behind false true true = refl
+behind false true false = refl
+behind false false b = sym (or_false b)
+
+grows_before : (f g : Way) (a b : NameSet) → Grows f a → Grows g b → Grows (before f g) (union b a)
+grows_before f g a b one two = record {
+  here = λ s. given_flat g b (f s) two (one.here s);
+  some = λ s m. any_flat g b (f s) m two ∙ ap (λ z. any_has (f s) m || (z && b m)) (one.here s) ∙ ap (λ z. z || (true && b m)) (one.some s m) ∙ behind (s m) (a m) (b m);
+}
+
+mutual
+  pub grows : (e : Tree) → Grows (ways e) (w.names e)
+  grows (tree p (int i)) = grows_stay
+  grows (tree p (atom n)) = grows_stay
+  grows (tree p (var n)) = grows_bind (one_name n)
+  grows (tree p any) = grows_stay
+  grows (tree p (list es)) = grows_all es
+  grows (tree p (list_to es e)) = grows_beside (side_by_side es) (ways e) (w.all_names es) (w.names e) (grows_all es) (grows e)
+  grows (tree p (tuple es)) = grows_all es
+  grows (tree p (matching q e)) = grows_before (ways e) (bind (w.names q)) (w.names e) (w.names q) (grows e) (grows_bind (w.names q))
+  grows (tree p (call f es)) = grows_beside (ways f) (side_by_side es) (w.names f) (w.all_names es) (grows f) (grows_all es)
+  grows (tree p (remote m f es)) =
+      grows_beside (ways m) (beside (ways f) (side_by_side es)) (w.names m) (union (w.names f) (w.all_names es)) (grows m)
+      (grows_beside (ways f) (side_by_side es) (w.names f) (w.all_names es) (grows f) (grows_all es))
+
+  grows_all : (es : Trees) → Grows (side_by_side es) (w.all_names es)
+  grows_all end = grows_stay
+  grows_all (more e es) = grows_beside (ways e) (side_by_side es) (w.names e) (w.all_names es) (grows e) (grows_all es)
 
 -- a row that grew by the same names
 pub shows_more : (f : Way) (names : NameSet) (sets : List NameSet) (row row' : List ℕ) → Grows f names → Shows sets row → ((m : ℕ) → bits_of row' m ≡ (bits_of row m || names m)) → Shows (flat_map f sets) row'

@@ -1,11 +1,10 @@
 -- What is left of a list of trees while the walk goes over it.
-use Rattle.std.proofs.Common.{◌≡◌, ◌<◌, ◌+◌, ℕ, Bool, true, false, List, [], ◌∷◌, ◌++◌, length, drop, get_or, suc, add-one, refl, sym, ap, ◌∙◌, subst, append-nil, ◌≤◌, Box, Vec}
-use Rattle.std.specs.declared.alloc.Global.{Global}
+use Rattle.std.proofs.Common.{◌≡◌, ◌<◌, ◌+◌, ℕ, Bool, true, false, List, [], ◌∷◌, ◌++◌, length, drop, get_or, suc, add-one, refl, sym, ap, ◌∙◌, subst, append-nil, ◌≤◌}
 use Rattle.std.specs.Prelude.{◌||◌}
 use Rattle.std.specs.List.{flat_map}
 use Rattle.std.proofs.Math.Seq.{drop-cons}
 use Rattle.std.proofs.lemmas.List.{drop_all}
-use Rattle.ef_forms.proofs.Plain.{plain_expr, plain_call, plain_remote}
+use Rattle.ef_forms.proofs.Plain.{plain_expr}
 use Rattle.ef_base.specs.declared.name.Name.{Name}
 use Rattle.ef_base.specs.declared.fault.Place.{Place}
 use Rattle.ef_base.specs.declared.fault.Fault.{Fault}
@@ -14,11 +13,11 @@ use Rattle.ef_base.specs.Texts.{Texts}
 use Rattle.ef_base.proofs.FaultLaws.{set_of-push}
 use Rattle.ef_forms.specs.declared.expr.Expr.{Expr}
 use Rattle.ef_forms.specs.declared.expr.Clause.{Clause}
-use Rattle.ef_forms.specs.declared.expr.Node.TheVariants as node
-use Rattle.ef_forms.specs.Tree.{tree}
+use Rattle.ef_forms.specs.declared.expr.Node.{Node}
+use Rattle.ef_forms.specs.Tree.{Shape, tree}
 use Rattle.ef_forms.specs.OfTable.{TreeOf, TreesOf, ClausesOf}
 use Rattle.ef_forms.specs.Plain.{plain, plain_node, plain_all, plain_clauses}
-use Rattle.ef_forms.specs.Ways.{NameSet, faults, all_faults, body_faults, clauses_faults, use_faults, unbound, on_some, ways, no_names, bind, all_names}
+use Rattle.ef_forms.specs.Ways.{NameSet, faults, shape_faults, all_faults, body_faults, clauses_faults, use_faults, unbound, on_some, ways, no_names, bind, all_names}
 use Rattle.ef_forms.specs.Ways as w
 use Rattle.ef_scope.specs.Bits.{bits_of}
 use Rattle.ef_scope.specs.Shows.{Shows, Adds}
@@ -139,20 +138,18 @@ pub clauses_end : (texts : Texts) (clauses : List Clause) (i : ℕ) (old found :
 clauses_end texts clauses i old found all before =
     before.left found (subst (λ l. Adds (clauses_faults texts (plain_clauses l) (no_names ∷ [])) found found) (sym (drop_all i clauses all)) (adds_none found))
 
--- ---- calls
+-- ---- nodes
 
-pub call_adds : (texts : Texts) (e : Expr) (f : Box Expr Global) (es : Vec Expr Global) (sets : List NameSet) (old mid new : List Fault) → e.node ≡ node.Call f es
-    → Adds (faults texts (plain f.value) sets) old mid → Adds (all_faults texts (plain_all es.items) sets) mid new → Adds (faults texts (plain e) sets) old new
-call_adds texts e f es sets old mid new is one two =
-    subst (λ t. Adds (faults texts t sets) old new) (sym (plain_expr e ∙ ap (tree e.place) (ap plain_node is ∙ plain_call f es)))
-    (adds_then old mid new (faults texts (plain f.value) sets) (all_faults texts (plain_all es.items) sets) one two)
+-- what the tree of a node adds
+pub node_adds : (texts : Texts) (e : Expr) (n : Node) (s : Shape) (sets : List NameSet) (old new : List Fault) → e.node ≡ n → plain_node n ≡ s
+    → Adds (shape_faults texts e.place s sets) old new → Adds (faults texts (plain e) sets) old new
+node_adds texts e n s sets old new is shape adds = subst (λ t. Adds (faults texts t sets) old new) (sym (plain_expr e ∙ ap (tree e.place) (ap plain_node is ∙ shape))) adds
 
-pub remote_adds : (texts : Texts) (e : Expr) (m f : Box Expr Global) (es : Vec Expr Global) (sets : List NameSet) (old mid mid' new : List Fault) → e.node ≡ node.Remote m f es
-    → Adds (faults texts (plain m.value) sets) old mid → Adds (faults texts (plain f.value) sets) mid mid' → Adds (all_faults texts (plain_all es.items) sets) mid' new → Adds (faults texts (plain e) sets) old new
-remote_adds texts e m f es sets old mid mid' new is one two three =
-    subst (λ t. Adds (faults texts t sets) old new) (sym (plain_expr e ∙ ap (tree e.place) (ap plain_node is ∙ plain_remote m f es)))
-    (adds_then old mid new (faults texts (plain m.value) sets) (faults texts (plain f.value) sets ++ all_faults texts (plain_all es.items) sets) one
-    (adds_then mid mid' new (faults texts (plain f.value) sets) (all_faults texts (plain_all es.items) sets) two three))
+pub one_adds : (texts : Texts) (e f : Expr) (sets : List NameSet) (old new : List Fault) → e ≡ f → Adds (faults texts (plain e) sets) old new → Adds (faults texts (plain f) sets) old new
+one_adds texts e f sets old new same adds = subst (λ g. Adds (faults texts (plain g) sets) old new) same adds
+
+pub all_adds : (texts : Texts) (es fs : List Expr) (sets : List NameSet) (old new : List Fault) → es ≡ fs → Adds (all_faults texts (plain_all es) sets) old new → Adds (all_faults texts (plain_all fs) sets) old new
+all_adds texts es fs sets old new same adds = subst (λ gs. Adds (all_faults texts (plain_all gs) sets) old new) same adds
 
 pub from_none : (texts : Texts) (clauses given_clauses : List Clause) (old new : List Fault) → given_clauses ≡ clauses → old ≡ []
     → Adds (clauses_faults texts (plain_clauses given_clauses) (no_names ∷ [])) old new → new ≡ set_of (clauses_faults texts (plain_clauses clauses) (no_names ∷ []))

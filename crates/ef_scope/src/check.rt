@@ -7,7 +7,7 @@ ghost use Rattle.ef_forms.specs.Plain.{plain, plain_all, plain_clauses, plain_fu
 ghost use Rattle.ef_forms.specs.Ways.{NameSet, all_faults, all_names, body_faults, clauses_faults, faults, function_faults, no_names, use_faults};
 ghost use Rattle.ef_forms.specs.Ways as ways;
 ghost use Rattle.ef_scope.specs.Bits.{bits_of};
-ghost use Rattle.ef_scope.specs.Shows.{Adds, Shows};
+ghost use Rattle.ef_scope.specs.Shows.{Adds, Shows, unbound_words};
 
 use crate::row::Row;
 use ef_base::{Bytes, Fault, FaultList, Name, Names, NoMemory, Place};
@@ -92,6 +92,17 @@ fn check(
     match &expr.node {
         Node::Int(_) | Node::Atom(_) => Ok(()),
         Node::Var(name) => check_use(alloc, names, expr.place, *name, bound, found),
+        // It is never bound.
+        Node::Any => add_unbound(alloc, expr.place, "_", found),
+        Node::List { items, tail } => {
+            check_all(alloc, names, items, bound, found)?;
+            match tail {
+                Some(tail) => check(alloc, names, tail, bound, found),
+                None => Ok(()),
+            }
+        }
+        Node::Tuple(items) => check_all(alloc, names, items, bound, found),
+        Node::Match { left: _, right } => check(alloc, names, right, bound, found),
         Node::Call { target, args } => {
             check(alloc, names, target, bound, found)?;
             check_all(alloc, names, args, bound, found)?;
@@ -141,7 +152,18 @@ fn check_use(
     if bound.has(name.index) {
         return Ok(());
     }
-    let words = Bytes::from_slice(alloc, names.text(name).as_bytes())?;
+    add_unbound(alloc, place, names.text(name), found)
+}
+
+fn add_unbound(
+    alloc: Global,
+    place: Place,
+    words: &str,
+    found: &mut FaultList,
+) -> Result<(), NoMemory>
+    ensures { OnOk result (Adds (unbound_words place words.now ∷ []) found.old found.new) }
+{
+    let words = Bytes::from_slice(alloc, words.as_bytes())?;
     found.push(Fault {
         place,
         code: 451,
@@ -156,8 +178,21 @@ fn bind(expr: &Expr, bound: &mut Row) -> Result<(), NoMemory>
     ensures { OnOk result ((m : ℕ) → bits_of bound.new m ≡ (bits_of bound.old m || ways.names (plain expr.now) m)) }
 {
     match &expr.node {
-        Node::Int(_) | Node::Atom(_) => Ok(()),
+        Node::Int(_) | Node::Atom(_) | Node::Any => Ok(()),
         Node::Var(name) => bound.insert(name.index),
+        Node::List { items, tail } => {
+            bind_all(items, bound)?;
+            match tail {
+                Some(tail) => bind(tail, bound),
+                None => Ok(()),
+            }
+        }
+        Node::Tuple(items) => bind_all(items, bound),
+        Node::Match { left, right } => {
+            bind(left, bound)?;
+            bind(right, bound)?;
+            Ok(())
+        }
         Node::Call { target, args } => {
             bind(target, bound)?;
             bind_all(args, bound)?;

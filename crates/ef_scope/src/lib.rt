@@ -3,5 +3,7 @@
 
 mod check;
 mod row;
+#[cfg(test)]
+mod tests;
 
 pub use check::scope_faults;

@@ -1,19 +1,18 @@
 -- Calls, exports and whole modules.
-use Rattle.std.proofs.Common.{◌≡◌, List, [], ◌∷◌, ◌++◌, length, map, sym, ap, ◌∙◌, subst, Bool, true, false, ◌≤◌, arith, Vec, Result, Ok, Err, IfOk}
+use Rattle.std.proofs.Common.{◌≡◌, ℕ, List, [], ◌∷◌, ◌++◌, length, map, sym, ap, ◌∙◌, subst, Bool, true, false, ◌≤◌, arith, Vec}
 use Rattle.std.specs.Prelude.{IsTrue, ◌↔◌, MatchOption, Option, Some}
 use Rattle.std.specs.declared.alloc.Global.{Global}
 use Rattle.ef_base.specs.declared.name.Name.{Name}
 use Rattle.ef_base.specs.declared.fault.Place.{Place}
 use Rattle.ef_base.specs.Texts.{Texts, Extends, HasName}
 use Rattle.ef_forms.specs.declared.expr.Expr.{Expr}
-use Rattle.ef_forms.specs.declared.expr.Clause.{Clause}
 use Rattle.ef_forms.specs.declared.expr.Node.TheVariants as node
 use Rattle.ef_forms.specs.declared.form.FunctionRef.{FunctionRef}
 use Rattle.ef_forms.specs.declared.tables.FunctionName.{FunctionName}
-use Rattle.ef_forms.specs.Tree.{Trees, Guards, FormTree, PlacedTree, ModuleTree, tree, atom, count, no_guard, or_guard, clause, no_clauses, module_name, export, function}
+use Rattle.ef_forms.specs.Tree.{Trees, FormTree, PlacedTree, ModuleTree, tree, atom, count, clause, no_clauses, module_name, export, function}
 use Rattle.ef_forms.specs.OfTable.{FormOf, FormsOf, ReferencesOf, ModuleOf}
-use Rattle.ef_forms.specs.Built.{IsDefined, IsCallOf, IsDistinct, Each, IsBuilt, IsBuiltFunction, IsBuiltClauses, defined_in, exports_in, exports_of, functions_in, name_of}
-use Rattle.ef_forms.specs.Plain.{plain, plain_node, plain_all, plain_guard, plain_clauses}
+use Rattle.ef_forms.specs.Built.{IsDefined, IsCallOf, IsDistinct, Each, IsBuilt, IsBuiltFunction, AreBuilt, AreBuiltClauses, ArePatterns, defined_in, exports_in, exports_of, functions_in, name_of}
+use Rattle.ef_forms.specs.Plain.{plain, plain_node, plain_all, plain_guard}
 use Rattle.ef_forms.proofs.Plain.{plain_expr, plain_atom, counted}
 use Rattle.ef_forms.proofs.Built.{built_later, built_before}
 use Rattle.ef_tables.specs.declared.function_set.FunctionSet.{FunctionSet}
@@ -63,24 +62,16 @@ says now m b functions exports of f e distinct_f distinct_e defined bodies all l
   λ built. bodies.1 (subst (λ l. Each (IsBuiltFunction now l) (functions_in m.forms)) (sym f) (built_before now all m of later built).bodies),
 )
 
-pub if_ok : {T E : Type 0} (r : Result T E) (P Q : T → Type 0) → ((x : T) → P x → Q x) → IfOk r P → IfOk r Q
-if_ok (Ok x) P Q f h = f x h
-if_ok (Err e) P Q f h = h
+-- a guard
+pub guarded : (texts : Texts) (defined : List FunctionName) (arity : ℕ) (p : Place) (ps body : Trees) (gs : List (Vec Expr Global)) → 1 ≤ length gs
+    → AreBuiltClauses texts defined arity (clause p ps (plain_guard gs) body no_clauses) → ⊥
+guarded texts defined arity p ps body [] given built = omega arith
+guarded texts defined arity p ps body (g ∷ gs) given built = built
 
--- a guard, or another number of clauses than one
-pub guarded : (texts : Texts) (defined : List FunctionName) (p : Place) (ps body : Trees) (gs : List (Vec Expr Global)) → 1 ≤ length gs
-    → IsBuiltClauses texts defined (clause p ps (plain_guard gs) body no_clauses) → ⊥
-guarded texts defined p ps body [] given built = omega arith
-guarded texts defined p ps body (g ∷ gs) given built = built
-
-pub many : (texts : Texts) (defined : List FunctionName) (cs : List Clause) → 2 ≤ length cs → IsBuiltClauses texts defined (plain_clauses cs) → ⊥
-many texts defined [] two built = omega arith
-many texts defined (c ∷ []) two built = omega arith
-many texts defined (c ∷ d ∷ cs) two built = by_guard (plain_guard c.guard.items) built
-  where
-    by_guard : (g : Guards) → IsBuiltClauses texts defined (clause c.place (plain_all c.patterns.items) g (plain_all c.body.items) (plain_clauses (d ∷ cs))) → ⊥
-    by_guard no_guard built = built
-    by_guard (or_guard es gs) built = built
+pub unguarded : (texts : Texts) (defined : List FunctionName) (arity : ℕ) (p : Place) (ps body : Trees) (gs : List (Vec Expr Global)) (b : Bool) → length gs ≡ 0
+    → count ps ≡ arity → ArePatterns ps → (IsTrue b ↔ AreBuilt texts defined body) → IsTrue b ↔ AreBuiltClauses texts defined arity (clause p ps (plain_guard gs) body no_clauses)
+unguarded texts defined arity p ps body [] b none counts patterns same = (λ yes. (counts, patterns, same.0 yes, tt), λ built. same.1 built.2)
+unguarded texts defined arity p ps body (g ∷ gs) b none counts patterns same = absurd (omega arith)
 
 pub found_set : (functions : List FunctionName) (found : Option FunctionSet) (set : FunctionSet) → found ≡ Some set
     → MatchOption found (IsDistinct functions → ⊥) (λ s. IsDistinct functions × (s ≡ functions)) → IsDistinct functions × (set ≡ functions)

@@ -1,13 +1,12 @@
 // Whether a module is one that is built.
 ghost use Rattle.std.specs.Prelude.{◌≡◌, ◌↔◌, ◌∷◌, [], IsTrue, IfOk, MatchOption, map};
 ghost use Rattle.ef_base.specs.Texts.{Extends, HasName, Texts};
-ghost use Rattle.ef_forms.specs.Built.{AreBuilt, Each, IsAmong, IsAtom, IsBuilt, IsBuiltClauses, IsBuiltFunction, IsBuiltTree, IsCallOf, IsDefined, IsDistinct, IsForeignModule, IsModuleInfo, defined_in, exports_in, functions_in, functions_of};
-ghost use Rattle.ef_forms.specs.OfTable.{FormOf, FormsOf, FunctionOf, ModuleOf, TreeOf, TreesOf};
+ghost use Rattle.ef_forms.specs.Built.{AreBuilt, AreBuiltClauses, ArePatterns, Each, IsAtom, IsBuilt, IsBuiltFunction, IsBuiltTree, IsCallOf, IsDefined, IsDistinct, IsForeignModule, IsModuleInfo, IsPattern, defined_in, exports_in, functions_in, functions_of};
+ghost use Rattle.ef_forms.specs.OfTable.{ClausesOf, FormOf, FormsOf, FunctionOf, ModuleOf, TreeOf, TreesOf};
 ghost use Rattle.ef_forms.specs.Plain.{plain, plain_all, plain_clauses, plain_form, plain_function, plain_module, plain_placed};
 ghost use Rattle.ef_forms.specs.Tree.{count};
 ghost use Rattle.ef_forms.specs.declared.tables.FunctionName.{FunctionName as TheFunction};
 ghost use Rattle.ef_tables.specs.Sets.{function};
-ghost use Rattle.ef_tables.specs.Heads.{AreFound, HasDistinctVariables, name_of_index, variable_in};
 
 use crate::function_set::FunctionSet;
 use ef_base::{Name, Names, NoMemory};
@@ -15,8 +14,10 @@ use ef_forms::{Clause, Expr, Form, Function, FunctionName, Module, Node, PlacedF
 use std::alloc::Global;
 
 /// Whether the module is one that is built: the functions that it exports and calls are defined in it, nothing is
-/// defined or exported twice, and its functions have one clause over distinct variables, variables, integers, atoms
-/// and calls. The tables are those of the module.
+/// defined or exported twice, `module_info/0` and `module_info/1` are not defined, and no call is of the module
+/// `erlang`. Clauses have no guards, each as many patterns as its function has parameters. Expressions are variables,
+/// `_`, integers, atoms, lists, tuples, matches with patterns, and calls; patterns are the first six. The tables are
+/// those of the module.
 pub fn is_built(
     alloc: Global,
     names: &Names,
@@ -37,7 +38,7 @@ pub fn is_built(
     if !are_defined(names, &defined, &tables.exports) {
         return Ok(false);
     }
-    are_built_forms(alloc, names, &defined, &module.forms)
+    Ok(are_built_forms(names, &defined, &module.forms))
 }
 
 // The set of these functions, if none stands twice.
@@ -82,132 +83,109 @@ fn are_defined(names: &Names, defined: &FunctionSet, functions: &[FunctionName])
 }
 
 // Whether the functions among the forms are built.
-fn are_built_forms(
-    alloc: Global,
-    names: &Names,
-    defined: &FunctionSet,
-    forms: &[PlacedForm],
-) -> Result<bool, NoMemory>
+fn are_built_forms(names: &Names, defined: &FunctionSet, forms: &[PlacedForm]) -> bool
     requires { FormsOf names.now (map plain_placed forms.now) }
-    ensures { IfOk result (λ b. IsTrue b ↔ Each (IsBuiltFunction names.now defined.now) (functions_in (map plain_placed forms.now))) }
+    ensures { IsTrue result ↔ Each (IsBuiltFunction names.now defined.now) (functions_in (map plain_placed forms.now)) }
 {
     for placed in forms {
-        if !is_built_form(alloc, names, defined, placed)? {
-            return Ok(false);
-        }
-    }
-    Ok(true)
-}
-
-fn is_built_form(
-    alloc: Global,
-    names: &Names,
-    defined: &FunctionSet,
-    placed: &PlacedForm,
-) -> Result<bool, NoMemory>
-    requires { FormOf names.now (plain_form placed.now.form) }
-    ensures { IfOk result (λ b. IsTrue b ↔ Each (IsBuiltFunction names.now defined.now) (functions_of (plain_form placed.now.form))) }
-{
-    match &placed.form {
-        Form::FunctionOf(function) => is_built_function(alloc, names, defined, function),
-        Form::ModuleName(_) | Form::Export(_) => Ok(true),
-    }
-}
-
-fn is_built_function(
-    alloc: Global,
-    names: &Names,
-    defined: &FunctionSet,
-    function: &Function,
-) -> Result<bool, NoMemory>
-    requires { FunctionOf names.now (plain_function function.now) }
-    ensures { IfOk result (λ b. IsTrue b ↔ IsBuiltFunction names.now defined.now (plain_function function.now)) }
-{
-    if is_module_info(names, function.name, function.arity as usize) {
-        return Ok(false);
-    }
-    match function.clauses.as_slice() {
-        [clause] => is_built_clause(alloc, names, defined, clause),
-        _ => Ok(false),
-    }
-}
-
-fn is_built_clause(
-    alloc: Global,
-    names: &Names,
-    defined: &FunctionSet,
-    clause: &Clause,
-) -> Result<bool, NoMemory>
-    requires { TreesOf names.now (plain_all clause.now.body.items) }
-    ensures { IfOk result (λ b. IsTrue b ↔ IsBuiltClauses names.now defined.now (plain_clauses (clause.now ∷ []))) }
-{
-    if !clause.guard.is_empty() {
-        return Ok(false);
-    }
-    if !are_distinct_variables(alloc, &clause.patterns)? {
-        return Ok(false);
-    }
-    Ok(are_built(names, defined, &clause.body))
-}
-
-// Whether the patterns are variables of different names.
-fn are_distinct_variables(alloc: Global, patterns: &[Expr]) -> Result<bool, NoMemory>
-    ensures { IfOk result (λ b. IsTrue b ↔ HasDistinctVariables (plain_all patterns.now)) }
-{
-    match variables_of(alloc, patterns)? {
-        Some(names) => Ok(all_differ(&names)),
-        None => Ok(false),
-    }
-}
-
-// The numbers of the names, if the patterns are variables.
-fn variables_of(alloc: Global, patterns: &[Expr]) -> Result<Option<Vec<usize>>, NoMemory>
-    ensures { IfOk result (λ found. AreFound (plain_all patterns.now) found) }
-{
-    let mut found = Vec::new(alloc);
-    for pattern in patterns {
-        let Some(name) = variable_of(pattern) else {
-            return Ok(None);
-        };
-        found.push(name.index)?;
-    }
-    Ok(Some(found))
-}
-
-// Whether no number stands twice. A function has at most 255 parameters.
-fn all_differ(numbers: &[usize]) -> bool
-    ensures { IsTrue result ↔ IsDistinct (map name_of_index numbers.now) }
-{
-    for at in 0..numbers.len() {
-        if stands_in(numbers[at], &numbers[at + 1..]) {
+        if !is_built_form(names, defined, placed) {
             return false;
         }
     }
     true
 }
 
-fn stands_in(number: usize, numbers: &[usize]) -> bool
-    ensures { IsTrue result ↔ IsAmong (name_of_index number) (map name_of_index numbers.now) }
+fn is_built_form(names: &Names, defined: &FunctionSet, placed: &PlacedForm) -> bool
+    requires { FormOf names.now (plain_form placed.now.form) }
+    ensures { IsTrue result ↔ Each (IsBuiltFunction names.now defined.now) (functions_of (plain_form placed.now.form)) }
 {
-    numbers.contains(&number)
-}
-
-fn variable_of(pattern: &Expr) -> Option<Name>
-    ensures { result ≡ variable_in (plain pattern.now) }
-{
-    match &pattern.node {
-        Node::Var(name) => Some(*name),
-        _ => None,
+    match &placed.form {
+        Form::FunctionOf(function) => is_built_function(names, defined, function),
+        Form::ModuleName(_) | Form::Export(_) => true,
     }
 }
 
+fn is_built_function(names: &Names, defined: &FunctionSet, function: &Function) -> bool
+    requires { FunctionOf names.now (plain_function function.now) }
+    ensures { IsTrue result ↔ IsBuiltFunction names.now defined.now (plain_function function.now) }
+{
+    let arity = function.arity as usize;
+    !is_module_info(names, function.name, arity)
+        && are_built_clauses(names, defined, arity, &function.clauses)
+}
+
+// Whether the clauses have so many patterns each, no guards, and patterns and bodies that are built.
+fn are_built_clauses(names: &Names, defined: &FunctionSet, arity: usize, clauses: &[Clause]) -> bool
+    requires { ClausesOf names.now (plain_clauses clauses.now) }
+    ensures { IsTrue result ↔ AreBuiltClauses names.now defined.now arity (plain_clauses clauses.now) }
+{
+    for clause in clauses {
+        if !is_built_clause(names, defined, arity, clause) {
+            return false;
+        }
+    }
+    true
+}
+
+#[tactic(auto, using(ef_forms::proofs::Plain::counted))]
+fn is_built_clause(names: &Names, defined: &FunctionSet, arity: usize, clause: &Clause) -> bool
+    requires { TreesOf names.now (plain_all clause.now.body.items) }
+    ensures { IsTrue result ↔ AreBuiltClauses names.now defined.now arity (plain_clauses (clause.now ∷ [])) }
+{
+    if !clause.guard.is_empty() {
+        return false;
+    }
+    if clause.patterns.len() != arity {
+        return false;
+    }
+    are_patterns(&clause.patterns) && are_built(names, defined, &clause.body)
+}
+
+// Whether the expression is a pattern of variables, integers, atoms, lists and tuples.
+#[cycle(pattern)]
+#[tactic(auto, using(ef_forms::proofs::Plain::laws))]
+fn is_pattern(expr: &Expr) -> bool
+    ensures { IsTrue result ↔ IsPattern (plain expr.now) }
+{
+    match &expr.node {
+        Node::Int(_) | Node::Atom(_) | Node::Var(_) | Node::Any => true,
+        Node::List { items, tail: None } => are_patterns(items),
+        Node::List {
+            items,
+            tail: Some(tail),
+        } => are_patterns(items) && is_pattern(tail),
+        Node::Tuple(items) => are_patterns(items),
+        Node::Match { .. } | Node::Call { .. } | Node::Remote { .. } => false,
+    }
+}
+
+#[cycle(pattern)]
+fn are_patterns(exprs: &[Expr]) -> bool
+    ensures { IsTrue result ↔ ArePatterns (plain_all exprs.now) }
+{
+    for expr in exprs {
+        if !is_pattern(expr) {
+            return false;
+        }
+    }
+    true
+}
+
 #[cycle(built)]
+#[tactic(auto, using(ef_forms::proofs::Plain::laws))]
 fn is_built_expr(names: &Names, defined: &FunctionSet, expr: &Expr) -> bool
     requires { TreeOf names.now (plain expr.now) }
     ensures { IsTrue result ↔ IsBuiltTree names.now defined.now (plain expr.now) }
 {
     match &expr.node {
-        Node::Int(_) | Node::Atom(_) | Node::Var(_) => true,
+        Node::Int(_) | Node::Atom(_) | Node::Var(_) | Node::Any => true,
+        Node::List { items, tail: None } => are_built(names, defined, items),
+        Node::List {
+            items,
+            tail: Some(tail),
+        } => are_built(names, defined, items) && is_built_expr(names, defined, tail),
+        Node::Tuple(items) => are_built(names, defined, items),
+        Node::Match { left, right } => is_pattern(left) && is_built_expr(names, defined, right),
         Node::Call { target, args } => {
             is_call_of(names, defined, target, args) && are_built(names, defined, args)
         }

@@ -1,15 +1,15 @@
-use Rattle.std.proofs.Common.{◌≡◌, ◌∙◌, sym, ap, List, ℕ}
+use Rattle.std.proofs.Common.{◌≡◌, ◌∙◌, sym, ap, subst, List, [], ◌∷◌, ℕ}
+use Rattle.std.proofs.lemmas.Result.{on_ok_weaker}
 use Rattle.ef_base.specs.Laws.{extends_same}
-use Rattle.ef_base.specs.Texts.{text}
-use Rattle.ef_base.specs.Faults.{insert_fault}
-use Rattle.ef_forms.specs.Ways.{use_faults, unbound}
-use Rattle.ef_scope.proofs.Steps.{adds_one, unused}
+use Rattle.ef_base.specs.declared.fault.Fault.{Fault}
+use Rattle.ef_forms.specs.Ways.{use_faults}
+use Rattle.ef_scope.specs.Shows.{Adds, unbound_words}
+use Rattle.ef_scope.proofs.Steps.{unused}
 use Rattle.ef_scope.proofs.check.check_use.Goals as goal
 
 pub returns : goal.returns
-returns c = λ sets shows.
-    let words : c.in_ok-words.words ≡ text c.args.names.now c.args.name =
-    c.in_ok-words.ensures ∙ c.as_bytes.ensures.value ∙ sym ((c.text.ensures c.args.names.now (extends_same c.args.names.now)).is) in
-    adds_one c.args.found.now c.push.new.self (unbound c.args.names.now c.args.place c.args.name) (use_faults c.args.names.now c.args.place c.args.name sets)
-    (c.in_ok-push.ensures.ok ∙ ap (λ (w : List ℕ). insert_fault (record { place = c.args.place; code = 451; words = w }) c.args.found.now) words)
-    (unused c.args.names.now c.args.place c.args.name sets c.args.bound.now c.has.result shows c.has.ensures c.if-has.false)
+returns c = on_ok_weaker c.add_unbound.result (λ adds sets shows.
+    let one = unused c.args.names.now c.args.place c.args.name sets c.args.bound.now c.has.result shows c.has.ensures c.if-has.false in
+    let words = (c.text.ensures c.args.names.now (extends_same c.args.names.now)).is in
+    let same : unbound_words c.args.place c.text.result.now ∷ [] ≡ use_faults c.args.names.now c.args.place c.args.name sets = ap (λ (w : List ℕ). unbound_words c.args.place w ∷ []) (sym words) ∙ sym one in
+    subst (λ (l : List Fault). Adds l c.args.found.now c.add_unbound.new.found) same adds) c.add_unbound.ensures

@@ -1,8 +1,8 @@
 use Rattle.std.proofs.Common.{◌∙◌, sym, subst, map}
-use Rattle.std.specs.Prelude.{IsTrue, ◌↔◌, IfOk}
+use Rattle.std.specs.Prelude.{IsTrue, ◌↔◌}
 use Rattle.ef_forms.specs.Built.{Each, IsBuiltFunction, IsDistinct, functions_in}
 use Rattle.ef_forms.specs.Plain.{plain_module, plain_placed}
-use Rattle.ef_tables.proofs.Calls.{Tells, exported_names, if_ok, says, says_no, found_set, undefined}
+use Rattle.ef_tables.proofs.Calls.{exported_names, says, says_no, found_set, undefined}
 use Rattle.ef_tables.proofs.built.is_built.Goals as goal
 
 pub are_defined-requires : goal.are_defined-requires
@@ -23,9 +23,8 @@ returns c =
     let others = found_set c.deref-2.result.now c.in_ok-_exported.field-0 c.in-Some-2._exported c.in-Some-2.is c.in_ok-_exported.ensures in
     let functions = set.1 ∙ c.deref.ensures.value ∙ c.requires.functions in
     let exports = c.deref-3.ensures.value ∙ c.requires.exports in
-    if_ok c.are_built_forms.result _ (Tells c.args.names.now m)
-    (λ b bodies. says c.args.names.now m b c.in-Some.defined c.deref-3.result.now c.requires.names functions exports
+    says c.args.names.now m c.are_built_forms.result c.in-Some.defined c.deref-3.result.now c.requires.names functions exports
     (subst IsDistinct (sym set.1) set.0)
     (subst IsDistinct (c.deref-2.ensures.value ∙ sym c.deref-3.ensures.value) others.0)
-    (c.are_defined.ensures.0 c.if-not-are_defined.false) bodies)
-    (subst (λ l. IfOk c.are_built_forms.result (λ b. IsTrue b ↔ Each (IsBuiltFunction c.args.names.now c.in-Some.defined) (functions_in (map plain_placed l)))) c.deref-4.ensures.value c.are_built_forms.ensures)
+    (c.are_defined.ensures.0 c.if-not-are_defined.false)
+    (subst (λ l. IsTrue c.are_built_forms.result ↔ Each (IsBuiltFunction c.args.names.now c.in-Some.defined) (functions_in (map plain_placed l))) c.deref-4.ensures.value c.are_built_forms.ensures)

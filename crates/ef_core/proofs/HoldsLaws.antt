@@ -1,5 +1,5 @@
 -- What holds everywhere in a tree under one rule holds under a weaker one, and under two together.
-use Rattle.std.specs.Prelude.{List, [], ◌∷◌}
+use Rattle.std.specs.Prelude.{List, [], ◌∷◌, ◌++◌}
 use Rattle.ef_core.specs.declared.literal.CoreVar.{CoreVar}
 use Rattle.ef_core.specs.Everywhere.{Each, Rule, both, LitHolds, LitsHold, Holds, AllHold, SegmentsHold, StepsHold, DefsHold, ClausesHold, PatHolds, PatsHold, PatSegmentsHold, DefHolds}
 use Rattle.ef_core.specs.Tree.{LitTree, LitTrees, CoreTree, CoreTrees, CoreSegments, CoreSteps, CoreDefs, CoreClauses, PatTree, PatTrees, PatSegments, DefTree, int, atom, lit_list, lit_list_to, lit_tuple, no_lits, more_lits, var, lit, fun_name, a_fun, value_list, tuple, list, list_to, bin, lets, letrec, case_of, apply, call, primop, do_then, receive, try_catch, end, more, no_segments, segment, done, step, no_defs, def, no_clauses, clause, pat_var, pat_lit, pat_tuple, pat_list, pat_list_to, alias, pat_bin, no_pats, more_pats, no_pat_segments, pat_segment}
@@ -7,6 +7,10 @@ use Rattle.ef_core.specs.Tree.{LitTree, LitTrees, CoreTree, CoreTrees, CoreSegme
 pub each_same : {A : Type 0} (P Q : A → Type 0) → ((a : A) → P a → Q a) → (as' : List A) → Each P as' → Each Q as'
 each_same P Q same [] is = tt
 each_same P Q same (a ∷ as') is = (same a is.0, each_same P Q same as' is.1)
+
+pub each_append : {A : Type 0} (P : A → Type 0) (as' bs : List A) → Each P as' → Each P bs → Each P (as' ++ bs)
+each_append P [] bs p q = q
+each_append P (a ∷ as') bs p q = (p.0, each_append P as' bs p.1 q)
 
 pub each_both : {A : Type 0} (P Q : A → Type 0) (as' : List A) → Each P as' → Each Q as' → Each (λ a. P a × Q a) as'
 each_both P Q [] p q = tt

@@ -1,6 +1,7 @@
 pub mod Ascii
 pub mod CoreCut
 pub mod Good
+pub mod Held
 pub mod HoldsLaws
 pub mod Later
 pub mod Law

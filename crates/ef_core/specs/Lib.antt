@@ -18,4 +18,5 @@ pub mod Laws
 pub mod Grammar
 pub mod Reads
 pub mod Readable
+pub mod Lowered
 pub mod Examples

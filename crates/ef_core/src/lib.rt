@@ -8,6 +8,7 @@ mod layout;
 mod let_form;
 mod lexeme;
 mod literal;
+mod lowered;
 mod module;
 #[cfg(test)]
 mod tests;
@@ -21,6 +22,7 @@ pub use layout::Last;
 pub use let_form::{is_let_form, is_simple};
 pub use lexeme::{Symbol, Word};
 pub use literal::{CoreLit, CoreVar, FName};
+pub use lowered::{Lowered, Test};
 pub use module::{CoreAttribute, CoreModule};
 pub use tree::{CoreClause, CoreDef, CoreExpr, CorePat, CorePatSegment, CoreSegment, LetStep};
 pub use weight::core_weight;

@@ -1,5 +1,5 @@
 -- What is put behind steps that are there: one lemma for each part of the lowering.
-use Rattle.std.proofs.Common.{◌≡◌, ℕ, ℤ, ◌+◌, List, [], ◌∷◌, ◌++◌, Some, sym, ap, ◌∙◌, subst, append_assoc, append-nil}
+use Rattle.std.proofs.Common.{◌≡◌, ℕ, ℤ, ◌+◌, ◌≤◌, List, [], ◌∷◌, ◌++◌, length, map, Some, sym, ap, ◌∙◌, subst, append_assoc, append-nil}
 use Rattle.ef_base.specs.declared.name.Name.{Name}
 use Rattle.ef_base.specs.declared.fault.Place.{Place}
 use Rattle.ef_base.specs.Texts.{Texts}
@@ -7,18 +7,24 @@ use Rattle.ef_core.specs.declared.env.Bind.{Bind}
 use Rattle.ef_core.specs.declared.literal.CoreVar.{CoreVar}
 use Rattle.ef_core.specs.declared.literal.CoreVar.TheVariants.{Numbered}
 use Rattle.ef_core.specs.Env.{held}
+use Rattle.ef_core.specs.declared.lowered.Test.{Test}
 use Rattle.ef_core.specs.LetForm.{IsSimple}
 use Rattle.ef_core.specs.Plain as plain
-use Rattle.ef_core.specs.Plain.{StepTree}
+use Rattle.ef_core.specs.Plain.{StepTree, lits}
 use Rattle.ef_core.specs.Tree as c
-use Rattle.ef_core.specs.Tree.{CoreTree}
+use Rattle.ef_core.specs.Tree.{CoreTree, LitTree, PatTrees}
 use Rattle.ef_forms.specs.Tree as t
 use Rattle.ef_forms.specs.Tree.{Tree, tree, count}
 use Rattle.ef_forms.specs.Plain.{trees}
-use Rattle.ef_meaning.specs.Lowers.{AreBelow, KeepsBody, Appends, AppendsAll, AppendsLast, finished}
-use Rattle.ef_meaning.proofs.Parts.{int_keeps, atom_keeps, var_keeps, nil_keeps, both_keep, put_keeps, one_step}
+use Rattle.ef_meaning.specs.Exception.{badmatch}
+use Rattle.ef_meaning.specs.Lowers.{AreBelow, KeepsBody, Appends, AppendsAll, AppendsLast, params_from, env_from, finished}
+use Rattle.ef_meaning.specs.Patterns.{IsGuard, KeepsPatterns}
+use Rattle.ef_meaning.specs.Cases.{AreHeld, FailsValue, match_case, names_of}
+use Rattle.ef_meaning.proofs.Parts.{int_keeps, atom_keeps, var_keeps, nil_keeps, both_keep, put_keeps, drawn_keeps, one_step}
 use Rattle.ef_meaning.proofs.Calls.{call_keeps, remote_call_keeps}
 use Rattle.ef_meaning.proofs.Bodies.{last_keeps, finished_keeps}
+use Rattle.ef_meaning.proofs.Terms.{tuple_keeps, list_keeps, tuple_literal_keeps, list_literal_keeps, list_to_keeps, list_to_literal_keeps}
+use Rattle.ef_meaning.proofs.Matches.{held_keeps, match_keeps}
 
 module _ {now : Texts} {env : List Bind} {n : ℕ} {old : List StepTree} where
   -- what needs no step
@@ -56,6 +62,61 @@ module _ {now : Texts} {n0 : ℕ} {env0 : List Bind} {old : List StepTree} {n1 :
     steps = ap (λ l. l ++ one_step (Numbered n1) value) k.steps ∙ append_assoc old k.added (one_step (Numbered n1) value);
     keeps = put_keeps now e n0 env0 k.added n1 env1 value k.keeps;
   }
+
+  -- an argument is a value
+  pub held_appends : {e : Tree} {x : CoreTree} → AppendsAll now (e ∷ []) n0 env0 old n1 env1 mid (x ∷ []) → Appends now e n0 env0 old n1 env1 mid x
+  held_appends {e} {x} k = record { added = k.added; steps = k.steps; keeps = held_keeps now e n0 env0 k.added n1 env1 x k.keeps }
+
+  -- ---- lists and tuples
+
+  pub tuple_appends : {es : List Tree} {xs : List CoreTree} (p : Place) → AppendsAll now es n0 env0 old n1 env1 mid xs → Appends now (tree p (t.tuple (trees es))) n0 env0 old n1 env1 mid (c.tuple (plain.trees xs))
+  tuple_appends {es} {xs} p k = record { added = k.added; steps = k.steps; keeps = tuple_keeps now p es n0 env0 k.added n1 env1 xs k.keeps }
+
+  pub list_appends : {es : List Tree} {xs : List CoreTree} (p : Place) → AppendsAll now es n0 env0 old n1 env1 mid xs → Appends now (tree p (t.list (trees es))) n0 env0 old n1 env1 mid (c.list (plain.trees xs))
+  list_appends {es} {xs} p k = record { added = k.added; steps = k.steps; keeps = list_keeps now p es n0 env0 k.added n1 env1 xs k.keeps }
+
+  -- of literals alone
+  pub tuple_literal_appends : {es : List Tree} (p : Place) (ls : List LitTree) → AppendsAll now es n0 env0 old n1 env1 mid (map (λ l. c.lit l) ls) → Appends now (tree p (t.tuple (trees es))) n0 env0 old n1 env1 mid (c.lit (c.lit_tuple (lits ls)))
+  tuple_literal_appends {es} p ls k = record { added = k.added; steps = k.steps; keeps = tuple_literal_keeps now p es n0 env0 k.added n1 env1 ls k.keeps }
+
+  pub list_literal_appends : {es : List Tree} (p : Place) (ls : List LitTree) → AppendsAll now es n0 env0 old n1 env1 mid (map (λ l. c.lit l) ls) → Appends now (tree p (t.list (trees es))) n0 env0 old n1 env1 mid (c.lit (c.lit_list (lits ls)))
+  list_literal_appends {es} p ls k = record { added = k.added; steps = k.steps; keeps = list_literal_keeps now p es n0 env0 k.added n1 env1 ls k.keeps }
+
+  -- items, and then the tail
+  pub list_to_appends : {es : List Tree} {e : Tree} {xs : List CoreTree} {y : CoreTree} {n2 : ℕ} {env2 : List Bind} {new : List StepTree} (p : Place) → AppendsAll now es n0 env0 old n1 env1 mid xs → AppendsAll now (e ∷ []) n1 env1 mid n2 env2 new (y ∷ []) →
+      Appends now (tree p (t.list_to (trees es) e)) n0 env0 old n2 env2 new (c.list_to (plain.trees xs) y)
+  list_to_appends {es} {e} {xs} {y} {n2} {env2} {new} p k l = record {
+    added = k.added ++ l.added;
+    steps = l.steps ∙ ap (λ z. z ++ l.added) k.steps ∙ append_assoc old k.added l.added;
+    keeps = list_to_keeps now p es e n0 env0 k.added n1 env1 l.added n2 env2 xs y k.keeps l.keeps;
+  }
+
+  pub list_to_literal_appends : {es : List Tree} {e : Tree} {n2 : ℕ} {env2 : List Bind} {new : List StepTree} (p : Place) (ls : List LitTree) (l : LitTree) → AppendsAll now es n0 env0 old n1 env1 mid (map (λ m. c.lit m) ls) → AppendsAll now (e ∷ []) n1 env1 mid n2 env2 new (c.lit l ∷ []) →
+      Appends now (tree p (t.list_to (trees es) e)) n0 env0 old n2 env2 new (c.lit (c.lit_list_to (lits ls) l))
+  list_to_literal_appends {es} {e} {n2} {env2} {new} p ls l k m = record {
+    added = k.added ++ m.added;
+    steps = m.steps ∙ ap (λ z. z ++ m.added) k.steps ∙ append_assoc old k.added m.added;
+    keeps = list_to_literal_keeps now p es e n0 env0 k.added n1 env1 m.added n2 env2 ls l k.keeps m.keeps;
+  }
+
+  -- ---- matches
+
+  -- a value that is held, and a step with the names that the pattern binds
+  pub match_appends : {p e : Tree} {x : CoreTree} {pats : PatTrees} {tests : List Test} {n2 : ℕ} {binds : List Bind} (q : Place) (guard always : CoreTree) (z : CoreVar) (fails : CoreTree) (n3 n4 : ℕ) → AppendsAll now (e ∷ []) n0 env0 old n1 env1 mid (x ∷ []) →
+      KeepsPatterns now (t.more p t.end) n1 env1 pats tests n2 binds → AreHeld (env1 ++ binds) binds → IsGuard now tests guard → IsGuard now [] always → FailsValue now z badmatch fails → n2 ≤ n3 → n3 + length (names_of binds) ≤ n4 →
+      Appends now (tree q (t.matching p e)) n0 env0 old n4 (env1 ++ env_from n3 (names_of binds)) (mid ++ record { vars = params_from n3 (names_of binds); value = match_case x pats guard binds always z fails } ∷ []) x
+  match_appends {p} {e} {x} {pats} {tests} {n2} {binds} q guard always z fails n3 n4 k patterns held is none failing later enough =
+      let step : StepTree = record { vars = params_from n3 (names_of binds); value = match_case x pats guard binds always z fails } in
+      record {
+        added = k.added ++ step ∷ [];
+        steps = ap (λ l. l ++ step ∷ []) k.steps ∙ append_assoc old k.added (step ∷ []);
+        keeps = held_keeps now (tree q (t.matching p e)) n0 env0 (k.added ++ step ∷ []) n4 (env1 ++ env_from n3 (names_of binds)) x
+            (match_keeps now q p e n0 env0 k.added n1 env1 x pats tests n2 binds guard always z fails n3 n4 k.keeps patterns held is none failing later enough);
+      }
+
+  -- variables that are drawn and not used
+  pub more_drawn : {es : List Tree} {xs : List CoreTree} (m : ℕ) → n1 ≤ m → AppendsAll now es n0 env0 old n1 env1 mid xs → AppendsAll now es n0 env0 old m env1 mid xs
+  more_drawn {es} {xs} m le k = record { added = k.added; steps = k.steps; keeps = drawn_keeps now es n0 env0 k.added n1 env1 xs m le k.keeps }
 
   -- ---- one after another
 

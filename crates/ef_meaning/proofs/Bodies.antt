@@ -10,13 +10,13 @@ use Rattle.ef_core.specs.declared.literal.CoreVar.TheVariants.{Numbered}
 use Rattle.ef_core.specs.Env.{bind, held}
 use Rattle.ef_core.specs.Plain.{StepTree, steps}
 use Rattle.ef_core.specs.Tree.{CoreTree}
-use Rattle.ef_forms.specs.Tree.{Tree, Trees, tree, int, atom, var, call, remote, end, more, clause, no_clauses, no_guard}
+use Rattle.ef_forms.specs.Tree.{Tree, Trees, tree, var, end, more, clause, no_clauses, no_guard}
 use Rattle.ef_forms.specs.Plain.{trees}
-use Rattle.ef_forms.specs.Built.{AreVariables, IsAmong, IsDistinct}
-use Rattle.ef_meaning.specs.Value.{Value}
+use Rattle.ef_forms.specs.Built.{IsAmong, IsDistinct}
+use Rattle.ef_meaning.specs.Value.{Value, values_of, with_some}
 use Rattle.ef_meaning.specs.Exception.{Error, function_clause}
 use Rattle.ef_meaning.specs.End.{Gives, Raises, and_then}
-use Rattle.ef_meaning.specs.Match.{Bindings, value_of, match_name, then_match, match_all}
+use Rattle.ef_meaning.specs.Match.{Bindings, value_of, match_name, match_values, match_all}
 use Rattle.ef_meaning.specs.Source as source
 use Rattle.ef_meaning.specs.Source.{Module, Source, by_clauses}
 use Rattle.ef_meaning.specs.Core as core
@@ -97,11 +97,11 @@ held_stays (b ∷ bs) x z y u p = by (b.name.index == z.index) p (λ e. held_sta
     by true e k = e
     by false e k = k e
 
-same_name : (x z : Name) → (x.index == z.index) ≡ true → x ≡ z
+pub same_name : (x z : Name) → (x.index == z.index) ≡ true → x ≡ z
 same_name x z p = let i : x.index ≡ z.index = grind (arith, nat_tests) in ap (λ (n : ℕ). let name : Name = record { index = n } in name) i
 
 -- one more name
-describes_push : (n : ℕ) (env : List Bind) (b : Bindings) (d : Vars) (x : Name) (v : Value) → AreBelow n env → held env x ≡ None → Describes env b d → Describes (env ++ bind x (Numbered n) ∷ []) ((x, v) ∷ b) ((Numbered n, v) ∷ d)
+pub describes_push : (n : ℕ) (env : List Bind) (b : Bindings) (d : Vars) (x : Name) (v : Value) → AreBelow n env → held env x ≡ None → Describes env b d → Describes (env ++ bind x (Numbered n) ∷ []) ((x, v) ∷ b) ((Numbered n, v) ∷ d)
 describes_push n env b d x v below free q = record { each = λ z. by z (held env z) refl }
   where
     more : Describes env b ((Numbered n, v) ∷ d)
@@ -127,23 +127,26 @@ none_held_more env x y (z ∷ xs) apart p = (held_last env x z y p.0 ∙ by (x.i
     by true e = absurd (apart (inl (sym (same_name x z e))))
     by false e = refl
 
-below_push : (n : ℕ) (env : List Bind) (x : Name) → AreBelow n env → AreBelow (n + 1) (env ++ bind x (Numbered n) ∷ [])
+pub below_push : (n : ℕ) (env : List Bind) (x : Name) → AreBelow n env → AreBelow (n + 1) (env ++ bind x (Numbered n) ∷ [])
 below_push n [] x p = (omega arith, tt)
 below_push n (b ∷ bs) x p = (let q = are_below_more n (n + 1) (b ∷ []) (omega arith) (p.0, tt) in q.0, below_push n bs x p.1)
 
-not_bound : (env : List Bind) (b : Bindings) (d : Vars) (x : Name) → Describes env b d → held env x ≡ None → value_of x b ≡ None
+pub not_bound : (env : List Bind) (b : Bindings) (d : Vars) (x : Name) → Describes env b d → held env x ≡ None → value_of x b ≡ None
 not_bound env b d x q e = by (value_of x b) (subst (λ o. SameAt o (value_of x b) d) e (q.each x))
   where
     by : (o : Option Value) → SameAt None o d → o ≡ None
     by None p = refl
     by (Some v) p = absurd p
 
+-- these are variables of these names
+abbrev pub AreVariables : Trees → List Name → Type 0
+AreVariables end [] = Unit {0}
+AreVariables (more (tree p (var n)) ps) (x ∷ xs) = (x ≡ n) × AreVariables ps xs
+AreVariables _ _ = ⊥
+
 too_many : (p : Tree) (ps : Trees) → AreVariables (more p ps) [] → ⊥
-too_many (tree p (int i)) ps are = are
-too_many (tree p (atom i)) ps are = are
 too_many (tree p (var n)) ps are = are
-too_many (tree p (call f es)) ps are = are
-too_many (tree p (remote m f es)) ps are = are
+too_many (tree p _) ps are = are
 
 -- the parameters match any values of their number, and Core's variables take them
 parameters : (all : Texts) (n : ℕ) (env : List Bind) (xs : List Name) (ps : Trees) (vs : List Value) (b : Bindings) (d : Vars) → AreVariables ps xs → IsDistinct xs → NoneHeld env xs → AreBelow n env → Describes env b d → length vs ≡ length (params_from n xs) →
@@ -152,26 +155,23 @@ parameters all n env [] end [] b d are distinct free below q len = (b, d, refl, 
 parameters all n env [] end (v ∷ vs) b d are distinct free below q len = absurd cc
 parameters all n env [] (more p ps) vs b d are distinct free below q len = absurd (too_many p ps are)
 parameters all n env (x ∷ xs) end vs b d are distinct free below q len = absurd are
-parameters all n env (x ∷ xs) (more (tree p (int i)) ps) vs b d are distinct free below q len = absurd are
-parameters all n env (x ∷ xs) (more (tree p (atom i)) ps) vs b d are distinct free below q len = absurd are
-parameters all n env (x ∷ xs) (more (tree p (call f es)) ps) vs b d are distinct free below q len = absurd are
-parameters all n env (x ∷ xs) (more (tree p (remote m f es)) ps) vs b d are distinct free below q len = absurd are
 parameters all n env (x ∷ xs) (more (tree p (var y)) ps) [] b d are distinct free below q len = absurd cc
 parameters all n env (x ∷ xs) (more (tree p (var y)) ps) (v ∷ vs) b d are distinct free below q len =
     let rest = parameters all (n + 1) (env ++ bind x (Numbered n) ∷ []) xs ps vs ((x, v) ∷ b) ((Numbered n, v) ∷ d) are.1 distinct.1
     (none_held_more env x (Numbered n) xs distinct.0 free.1) (below_push n env x below) (describes_push n env b d x v below free.0 q) (omega arith) in (
       rest.0,
       rest.1,
-      ap (λ z. then_match (match_name z (value_of z b) v b) (λ c. match_all all ps vs c)) (sym are.0) ∙ ap (λ o. then_match (match_name x o v b) (λ c. match_all all ps vs c)) (not_bound env b d x q free.0) ∙ rest.2,
+      ap (λ z. with_some (match_name z (value_of z b) v b) (λ c. match_values all ps (values_of vs) c)) (sym are.0) ∙ ap (λ o. with_some (match_name x o v b) (λ c. match_values all ps (values_of vs) c)) (not_bound env b d x q free.0) ∙ rest.2,
       rest.3,
       subst (λ e. Describes e rest.0 rest.1) (append_assoc env (bind x (Numbered n) ∷ []) (env_from (n + 1) xs)) rest.4,
     )
+parameters all n env (x ∷ xs) (more (tree p _) ps) vs b d are distinct free below q len = absurd are
 
 none_free : (xs : List Name) → NoneHeld [] xs
 none_free [] = tt
 none_free (x ∷ xs) = (refl, none_free xs)
 
-one_export : (a : Value × Bindings) (vs : List Value) → Exports [] a vs → SameValue a.0 vs
+pub one_export : (a : Value × Bindings) (vs : List Value) → Exports [] a vs → SameValue a.0 vs
 one_export a vs ex = by ex.names ex.is ex.bound
   where
     by : (names : List Value) → vs ≡ a.0 ∷ names → AllBound [] a.1 names → vs ≡ a.0 ∷ []

@@ -4,7 +4,8 @@ use Rattle.ef_meaning.specs.Value.{Value, Atom, External}
 use Rattle.ef_meaning.specs.Proper.{Known}
 use Rattle.ef_meaning.specs.Outside.{Event, Item, Answer, Raise, Arrive, TimeUp, CallBack, Returned, Excepted, Called, GaveBack, State, with_items, arrived, shows}
 use Rattle.ef_meaning.specs.End.{End, More, and_either}
-use Rattle.ef_meaning.specs.Called.{Apply, Side, fits, takes, taken, arity_of, tested, by_kind, fun_applied, answered, apply, remote}
+use Rattle.ef_meaning.specs.Pure.{pure}
+use Rattle.ef_meaning.specs.Called.{Apply, Side, fits, takes, taken, arity_of, tested, called, outside_call, by_kind, fun_applied, answered, apply, remote}
 use Rattle.ef_meaning.specs.Keeps.{Ahead, Extends}
 use Rattle.ef_meaning.proofs.Ends.{begins_refl, if_ahead, if_extends, shown_ahead, extends_refl, either_ahead, either_extends}
 
@@ -45,14 +46,30 @@ taken_extends : {F : Type 0} (k : Known) (back more : Apply F) (is : List Item) 
 taken_extends k back more [] s p = refl
 taken_extends k back more (i ∷ is) s p = if_extends (fits k i) _ _ _ _ (takes_extends back more _ _ i (with_items is s) p (λ t. taken_extends k back more is t p)) (taken_extends k back more is s p)
 
+-- ---- calls of functions of other modules
+
+called_ahead : {F : Type 0} (o : Option Value) (calls : State F → End Value (State F)) → CallGrows calls → CallGrows (called o calls)
+called_ahead None calls p s = p s
+called_ahead (Some v) calls p s = begins_refl s.outside.events
+
+called_extends : {F : Type 0} (o : Option Value) (calls more : State F → End Value (State F)) → CallExtends calls more → CallExtends (called o calls) (called o more)
+called_extends None calls more p s = p s
+called_extends (Some v) calls more p s = refl
+
+pub outside_ahead : {F : Type 0} (calls : State F → End Value (State F)) → CallGrows calls → (m f : List ℕ) (vs : List Value) (s : State F) → Ahead s.outside.events (outside_call calls m f vs s)
+outside_ahead calls p m f vs s = called_ahead (pure m f vs) _ (λ t. shown_ahead (Called m f vs) t (calls (shows (Called m f vs) t)) (p (shows (Called m f vs) t))) s
+
+pub outside_extends : {F : Type 0} (calls more : State F → End Value (State F)) → CallExtends calls more → (m f : List ℕ) (vs : List Value) (s : State F) → Extends (outside_call calls m f vs s) (outside_call more m f vs s)
+outside_extends calls more p m f vs s = called_extends (pure m f vs) _ _ (λ t. p (shows (Called m f vs) t)) s
+
 -- ---- applications
 
 kind_ahead : {F : Type 0} (calls : State F → End Value (State F)) (own : Apply F) → CallGrows calls → ApplyGrows own → ApplyGrows (by_kind calls own)
-kind_ahead calls own p q (External m f a) vs s = shown_ahead (Called m f vs) s (calls (shows (Called m f vs) s)) (p (shows (Called m f vs) s))
+kind_ahead calls own p q (External m f a) vs s = outside_ahead calls p m f vs s
 kind_ahead calls own p q f vs s = q f vs s
 
 kind_extends : {F : Type 0} (calls more : State F → End Value (State F)) (own others : Apply F) → CallExtends calls more → ApplyExtends own others → ApplyExtends (by_kind calls own) (by_kind more others)
-kind_extends calls more own others p q (External m f a) vs s = p (shows (Called m f vs) s)
+kind_extends calls more own others p q (External m f a) vs s = outside_extends calls more p m f vs s
 kind_extends calls more own others p q f vs s = q f vs s
 
 tested_ahead : {F : Type 0} (o : Option ℕ) (go : Apply F) → ApplyGrows go → ApplyGrows (tested o go)
@@ -130,9 +147,9 @@ pub apply_extends : {F L : Type 0} (by : Side F L) (ls ks : List L) → SideBelo
 apply_extends by ls ks p g f vs s = fun_extends (answered by ls) (answered by ks) (by.applies ls) (by.applies ks) (answered_extends by ls ks p g) (own_below by ls ks p) f vs s
 
 pub remote_ahead : {F L : Type 0} (by : Side F L) (ls : List L) (m f : Value) (vs : List Value) (s : State F) → SideGrows by ls → Ahead s.outside.events (remote by ls m f vs s)
-remote_ahead by ls (Atom m) (Atom f) vs s g = shown_answered by ls (Called m f vs) s g
+remote_ahead by ls (Atom m) (Atom f) vs s g = outside_ahead (answered by ls) (answered_ahead by ls g) m f vs s
 remote_ahead by ls _ _ vs s g = begins_refl s.outside.events
 
 pub remote_extends : {F L : Type 0} (by : Side F L) (ls ks : List L) (m f : Value) (vs : List Value) (s : State F) → SideBelow by ls ks → SideGrows by ks → Extends (remote by ls m f vs s) (remote by ks m f vs s)
-remote_extends by ls ks (Atom m) (Atom f) vs s p g = answered_extends by ls ks p g (shows (Called m f vs) s)
+remote_extends by ls ks (Atom m) (Atom f) vs s p g = outside_extends (answered by ls) (answered by ks) (answered_extends by ls ks p g) m f vs s
 remote_extends by ls ks _ _ vs s p g = refl

@@ -30,7 +30,7 @@ use Rattle.ef_meaning.proofs.Simulate.{keeps_same, gives_keeps, wrong_keeps, the
 use Rattle.ef_meaning.proofs.Variables.{values_eval}
 use Rattle.ef_meaning.proofs.Steps.{const_steady}
 use Rattle.ef_meaning.proofs.Parts.{args_keep}
-use Rattle.ef_meaning.proofs.Remote.{apply_steady, shown_steady, source_grows, remote_keeps}
+use Rattle.ef_meaning.proofs.Remote.{apply_steady, remote_steady, source_grows, remote_keeps}
 
 -- one value for one
 pub one_keeps : (cw : CoreModule) (all : List Entry) (en : List Code) (n : ℕ) (e : End Value Source) (C : ℕ → End Value Target) → ((m i : ℕ) → m ≤ i → Extends (C m) (C i)) → Keeps Alike (Related cw all en) n e C → Keeps SameValue (Related cw all en) n e (λ m. one_value (C m))
@@ -126,7 +126,7 @@ remote_call_keeps now p q r m f es n0 env0 added n1 env1 xs k = record {
       keeps_same SameValue (Related cw all en) n _ (remote (source.side w) (source.levels w n) M F vs u) _ (λ i. one_value (remote (core.side cw) (core.levels cw i) M F vs y)) refl
       (λ i j. (ap (λ o. and_then o (λ us v. one_value (remote (core.side cw) (core.levels cw j) (Atom (text cw.texts m)) (Atom (text cw.texts f)) us v))) (values_eval cw xs vs (core.levels cw j) e fs y held)
       ∙ ap (λ ts. one_value (remote (core.side cw) (core.levels cw j) (Atom (text ts m)) (Atom (text ts f)) vs y)) world.texts) i)
-      (one_keeps cw all en n (remote (source.side w) (source.levels w n) M F vs u) (λ i. remote (core.side cw) (core.levels cw i) M F vs y) (shown_steady cw _ y).extends
+      (one_keeps cw all en n (remote (source.side w) (source.levels w n) M F vs u) (λ i. remote (core.side cw) (core.levels cw i) M F vs y) (remote_steady cw M F vs y).extends
       (remote_keeps w cw world.functions all en n (λ i lt. calls i (omega arith)) (text w.texts m) (text w.texts f) vs u y q)));
   argument = λ simple. absurd simple;
 }

@@ -1,16 +1,16 @@
 -- Core: events only grow, and a larger bound keeps an end and extends the events of what goes on.
-use Rattle.std.proofs.Common.{ℕ, zero, suc, ◌≤◌, List, [], ◌∷◌, Option, Some, None, refl, arith}
+use Rattle.std.proofs.Common.{ℕ, zero, suc, ◌≤◌, codes, bytes_eq, List, [], ◌∷◌, Option, Some, None, refl, sym, ap, subst, arith}
 use Rattle.ef_base.specs.Texts.{Texts, text}
 use Rattle.ef_core.specs.declared.literal.FName.{FName}
 use Rattle.ef_core.specs.Tree as tree
-use Rattle.ef_core.specs.Tree.{CoreTree, CoreTrees, CoreSteps, var, lit, fun_name, lets, call, end, more, done, step}
-use Rattle.ef_meaning.specs.Value.{Value}
+use Rattle.ef_core.specs.Tree.{CoreTree, CoreTrees, CoreSteps, CoreClauses, var, lit, fun_name, value_list, list, list_to, lets, case_of, call, primop, end, more, done, step, no_clauses, clause}
+use Rattle.ef_meaning.specs.Value.{Value, Atom}
 use Rattle.ef_meaning.specs.Lookup.{find}
 use Rattle.ef_meaning.specs.Outside.{Event}
-use Rattle.ef_meaning.specs.End.{End, and_then}
+use Rattle.ef_meaning.specs.End.{End, Gives, Raises, Waits, More, Wrong, and_then}
 use Rattle.ef_meaning.specs.Keeps.{Ahead, Extends}
-use Rattle.ef_meaning.specs.Core.{Vars, Funs, Code, Target, Answer, Levels, CoreModule, value_at, entry_of, single, one_value, applied, code_of, side, held_value, bind, given, function_value, eval, eval_all, eval_steps, run_body, levels, core}
-use Rattle.ef_meaning.proofs.Ends.{begins_refl, extends_refl, then_ahead, then_extends}
+use Rattle.ef_meaning.specs.Core.{Vars, Funs, Code, Target, Answer, Levels, CoreModule, value_at, entry_of, single, one_value, applied, code_of, side, match_all, unchanged, decided, guarded, chosen, match_fail, primitive, held_value, bind, given, function_value, eval, pick, eval_all, eval_steps, run_body, levels, core}
+use Rattle.ef_meaning.proofs.Ends.{OnlyAdds, begins_refl, ahead_trans, extends_refl, if_ahead, if_extends, then_ahead, then_extends}
 use Rattle.ef_meaning.proofs.CalledLaws.{SideGrows, SideBelow, apply_ahead, apply_extends, remote_ahead, remote_extends}
 
 -- ---- events only grow
@@ -53,12 +53,44 @@ function_ahead all f None None s = tt
 function_ahead all f (Some k) None s = tt
 function_ahead all f (Some k) (Some g) s = tt
 
+-- ---- guards and primitive operations
+
+decided_ahead : (xs : List Event) (vs : List Value) (e f : Answer) → Ahead xs e → Ahead xs f → Ahead xs (decided vs e f)
+decided_ahead xs (Atom a ∷ []) e f p q = if_ahead xs (bytes_eq a (codes "true")) _ _ p (if_ahead xs (bytes_eq a (codes "false")) _ _ q tt)
+decided_ahead xs _ e f p q = tt
+
+guarded_ahead : (xs : List Event) (s : Target) (e : Answer) (body others : Target → Answer) → Ahead xs e → ((t : Target) → Ahead t.outside.events (body t)) → ((t : Target) → Ahead t.outside.events (others t)) → Ahead xs (guarded s e body others)
+guarded_ahead xs s (Gives vs t) body others p q r = if_ahead xs (unchanged s t) _ _ (decided_ahead xs vs (body t) (others t) (ahead_trans xs _ (body t) p (q t)) (ahead_trans xs _ (others t) p (r t))) tt
+guarded_ahead xs s (Raises k v t) body others p q r = tt
+guarded_ahead xs s (Waits t) body others p q r = tt
+guarded_ahead xs s (More t) body others p q r = p
+guarded_ahead xs s Wrong body others p q r = tt
+
+chosen_ahead : (o : Option Vars) (s : Target) (body : Vars → Answer) (others : Answer) → ((c : Vars) → Ahead s.outside.events (body c)) → Ahead s.outside.events others → Ahead s.outside.events (chosen o body others)
+chosen_ahead None s body others p q = q
+chosen_ahead (Some c) s body others p q = p c
+
+fail_ahead : (vs : List Value) (s : Target) → Ahead s.outside.events (match_fail vs s)
+fail_ahead [] s = tt
+fail_ahead (v ∷ []) s = begins_refl s.outside.events
+fail_ahead (v ∷ u ∷ vs) s = tt
+
+primitive_ahead : (f : List ℕ) (vs : List Value) (s : Target) → Ahead s.outside.events (primitive f vs s)
+primitive_ahead f vs s = if_ahead s.outside.events (bytes_eq f (codes "match_fail")) _ _ (fail_ahead vs s) tt
+
 module _ (w : CoreModule) where
   mutual
     pub eval_ahead : (e : CoreTree) (ls : Levels) (c : Vars) (fs : Funs) (s : Target) → Grow ls → Ahead s.outside.events (eval w e ls c fs s)
     eval_ahead (var x) ls c fs s g = held_ahead (value_at x c) s
     eval_ahead (lit l) ls c fs s g = begins_refl s.outside.events
     eval_ahead (fun_name f) ls c fs s g = function_ahead w.texts f (entry_of f fs) (find (text w.texts f.name) f.arity w.functions) s
+    eval_ahead (value_list es) ls c fs s g = all_ahead es ls c fs s g
+    eval_ahead (tree.tuple es) ls c fs s g = then_ahead _ (eval_all w es ls c fs s) _ (all_ahead es ls c fs s g) (λ vs t. begins_refl t.outside.events)
+    eval_ahead (list es) ls c fs s g = then_ahead _ (eval_all w es ls c fs s) _ (all_ahead es ls c fs s g) (λ vs t. begins_refl t.outside.events)
+    eval_ahead (list_to es e) ls c fs s g = then_ahead _ (eval_all w es ls c fs s) _ (all_ahead es ls c fs s g) (λ vs t.
+        then_ahead _ (and_then (eval w e ls c fs t) single) _ (single_after _ (eval w e ls c fs t) (eval_ahead e ls c fs t g)) (λ v u. begins_refl u.outside.events))
+    eval_ahead (case_of e cs) ls c fs s g = then_ahead _ (eval w e ls c fs s) _ (eval_ahead e ls c fs s g) (λ vs t. pick_ahead cs vs ls c fs (λ u. u) (λ u. Wrong) t g (λ u. begins_refl u.outside.events) (λ u. tt))
+    eval_ahead (primop f es) ls c fs s g = then_ahead _ (eval_all w es ls c fs s) _ (all_ahead es ls c fs s g) (λ vs t. primitive_ahead (text w.texts f) vs t)
     eval_ahead (lets ss e) ls c fs s g = then_ahead _ (eval_steps w ss ls c fs s) _ (steps_ahead ss ls c fs s g) (λ d t. eval_ahead e ls d fs t g)
     eval_ahead (tree.apply f es) ls c fs s g = then_ahead _ (and_then (eval w f ls c fs s) single) _ (single_after _ (eval w f ls c fs s) (eval_ahead f ls c fs s g)) (λ h t.
         then_ahead _ (eval_all w es ls c fs t) _ (all_ahead es ls c fs t g) (λ vs u. one_ahead _ _ (apply_ahead (side w) ls (side_grows w ls g) h vs u)))
@@ -66,6 +98,13 @@ module _ (w : CoreModule) where
         then_ahead _ (and_then (eval w f ls c fs t) single) _ (single_after _ (eval w f ls c fs t) (eval_ahead f ls c fs t g)) (λ i u.
         then_ahead _ (eval_all w es ls c fs u) _ (all_ahead es ls c fs u g) (λ vs x. one_ahead _ _ (remote_ahead (side w) ls h i vs x (side_grows w ls g)))))
     eval_ahead _ ls c fs s g = tt
+
+    pub pick_ahead : (cs : CoreClauses) (vs : List Value) (ls : Levels) (c : Vars) (fs : Funs) (took : Target → Target) (others : Target → Answer) (s : Target) → Grow ls → OnlyAdds took → ((t : Target) → Ahead t.outside.events (others t)) →
+        Ahead s.outside.events (pick w cs vs ls c fs took others s)
+    pick_ahead no_clauses vs ls c fs took others s g p q = q s
+    pick_ahead (clause ps h e cs) vs ls c fs took others s g p q = chosen_ahead (match_all w.texts ps vs c) s _ _
+        (λ d. guarded_ahead _ s (eval w h ls d fs s) _ _ (eval_ahead h ls d fs s g) (λ t. ahead_trans _ _ (eval w e ls d fs (took t)) (p t) (eval_ahead e ls d fs (took t) g)) (λ t. pick_ahead cs vs ls c fs took others t g p q))
+        (pick_ahead cs vs ls c fs took others s g p q)
 
     pub all_ahead : (es : CoreTrees) (ls : Levels) (c : Vars) (fs : Funs) (s : Target) → Grow ls → Ahead s.outside.events (eval_all w es ls c fs s)
     all_ahead end ls c fs s g = begins_refl s.outside.events
@@ -112,12 +151,41 @@ side_below w [] ks p g = λ f vs s. single_extends (applied (code_of w f s) [] v
 side_below w (l ∷ ls) [] p g = absurd p
 side_below w (l ∷ ls) (k ∷ ks) p g = (λ f vs s. single_extends (applied (code_of w f s) (l ∷ ls) vs s) (applied (code_of w f s) (k ∷ ks) vs s) (applied_extends (code_of w f s) (l ∷ ls) (k ∷ ks) vs s p g), side_below w ls ks p.1 g.1)
 
+decided_extends : (vs : List Value) (e f g h : Answer) → Extends e g → Extends f h → Extends (decided vs e f) (decided vs g h)
+decided_extends (Atom a ∷ []) e f g h p q = if_extends (bytes_eq a (codes "true")) _ _ _ _ p (if_extends (bytes_eq a (codes "false")) _ _ _ _ q refl)
+decided_extends _ e f g h p q = refl
+
+-- both ways go on from the state behind the guard
+guarded_extends : (s : Target) (e f : Answer) (body others next rest : Target → Answer) → Extends e f → ((t : Target) → Extends (body t) (next t)) → ((t : Target) → Extends (others t) (rest t)) →
+    ((t : Target) → Ahead t.outside.events (next t)) → ((t : Target) → Ahead t.outside.events (rest t)) → Extends (guarded s e body others) (guarded s f next rest)
+guarded_extends s (Gives vs t) f body others next rest p q r h k = subst (λ g. Extends (guarded s (Gives vs t) body others) (guarded s g next rest)) (sym p)
+    (if_extends (unchanged s t) _ _ _ _ (decided_extends vs (body t) (others t) (next t) (rest t) (q t) (r t)) refl)
+guarded_extends s (Raises c v t) f body others next rest p q r h k = ap (λ g. guarded s g next rest) p
+guarded_extends s (Waits t) f body others next rest p q r h k = ap (λ g. guarded s g next rest) p
+guarded_extends s (More t) f body others next rest p q r h k = guarded_ahead t.outside.events s f next rest p h k
+guarded_extends s Wrong f body others next rest p q r h k = ap (λ g. guarded s g next rest) p
+
+chosen_extends : (o : Option Vars) (body next : Vars → Answer) (others rest : Answer) → ((c : Vars) → Extends (body c) (next c)) → Extends others rest → Extends (chosen o body others) (chosen o next rest)
+chosen_extends None body next others rest p q = q
+chosen_extends (Some c) body next others rest p q = p c
+
 module _ (w : CoreModule) where
   mutual
     pub eval_extends : (e : CoreTree) (ls ks : Levels) (c : Vars) (fs : Funs) (s : Target) → Below ls ks → Grow ks → Extends (eval w e ls c fs s) (eval w e ks c fs s)
     eval_extends (var x) ls ks c fs s p g = extends_refl (held_value (value_at x c) s)
     eval_extends (lit l) ls ks c fs s p g = refl
     eval_extends (fun_name f) ls ks c fs s p g = extends_refl (function_value w.texts f (entry_of f fs) (find (text w.texts f.name) f.arity w.functions) s)
+    eval_extends (value_list es) ls ks c fs s p g = all_extends es ls ks c fs s p g
+    eval_extends (tree.tuple es) ls ks c fs s p g = then_extends (eval_all w es ls c fs s) (eval_all w es ks c fs s) _ _ (all_extends es ls ks c fs s p g) (λ vs t. refl) (λ vs t. begins_refl t.outside.events)
+    eval_extends (list es) ls ks c fs s p g = then_extends (eval_all w es ls c fs s) (eval_all w es ks c fs s) _ _ (all_extends es ls ks c fs s p g) (λ vs t. refl) (λ vs t. begins_refl t.outside.events)
+    eval_extends (list_to es e) ls ks c fs s p g = then_extends (eval_all w es ls c fs s) (eval_all w es ks c fs s) _ _ (all_extends es ls ks c fs s p g)
+        (λ vs t. then_extends (and_then (eval w e ls c fs t) single) (and_then (eval w e ks c fs t) single) _ _ (single_extends (eval w e ls c fs t) (eval w e ks c fs t) (eval_extends e ls ks c fs t p g)) (λ v u. refl) (λ v u. begins_refl u.outside.events))
+        (λ vs t. then_ahead _ (and_then (eval w e ks c fs t) single) _ (single_after _ (eval w e ks c fs t) (eval_ahead w e ks c fs t g)) (λ v u. begins_refl u.outside.events))
+    eval_extends (case_of e cs) ls ks c fs s p g = then_extends (eval w e ls c fs s) (eval w e ks c fs s) _ _ (eval_extends e ls ks c fs s p g)
+        (λ vs t. pick_extends cs vs ls ks c fs (λ u. u) (λ u. Wrong) (λ u. Wrong) t p g (λ u. begins_refl u.outside.events) (λ u. refl) (λ u. tt))
+        (λ vs t. pick_ahead w cs vs ks c fs (λ u. u) (λ u. Wrong) t g (λ u. begins_refl u.outside.events) (λ u. tt))
+    eval_extends (primop f es) ls ks c fs s p g = then_extends (eval_all w es ls c fs s) (eval_all w es ks c fs s) _ _ (all_extends es ls ks c fs s p g)
+        (λ vs t. extends_refl (primitive (text w.texts f) vs t)) (λ vs t. primitive_ahead (text w.texts f) vs t)
     eval_extends (lets ss e) ls ks c fs s p g = then_extends (eval_steps w ss ls c fs s) (eval_steps w ss ks c fs s) _ _ (steps_extends ss ls ks c fs s p g) (λ d t. eval_extends e ls ks d fs t p g) (λ d t. eval_ahead w e ks d fs t g)
     eval_extends (tree.apply f es) ls ks c fs s p g =
         then_extends (and_then (eval w f ls c fs s) single) (and_then (eval w f ks c fs s) single) _ _ (single_extends (eval w f ls c fs s) (eval w f ks c fs s) (eval_extends f ls ks c fs s p g))
@@ -135,6 +203,15 @@ module _ (w : CoreModule) where
         (λ i u. last h i u))
         (λ h t. then_ahead _ (and_then (eval w f ks c fs t) single) _ (single_after _ (eval w f ks c fs t) (eval_ahead w f ks c fs t g)) (λ i u. last h i u))
     eval_extends _ ls ks c fs s p g = refl
+
+    pub pick_extends : (cs : CoreClauses) (vs : List Value) (ls ks : Levels) (c : Vars) (fs : Funs) (took : Target → Target) (others rest : Target → Answer) (s : Target) → Below ls ks → Grow ks → OnlyAdds took →
+        ((t : Target) → Extends (others t) (rest t)) → ((t : Target) → Ahead t.outside.events (rest t)) → Extends (pick w cs vs ls c fs took others s) (pick w cs vs ks c fs took rest s)
+    pick_extends no_clauses vs ls ks c fs took others rest s p g o q r = q s
+    pick_extends (clause ps h e cs) vs ls ks c fs took others rest s p g o q r = chosen_extends (match_all w.texts ps vs c) _ _ _ _
+        (λ d. guarded_extends s (eval w h ls d fs s) (eval w h ks d fs s) _ _ _ _ (eval_extends h ls ks d fs s p g)
+        (λ t. eval_extends e ls ks d fs (took t) p g) (λ t. pick_extends cs vs ls ks c fs took others rest t p g o q r)
+        (λ t. ahead_trans _ _ (eval w e ks d fs (took t)) (o t) (eval_ahead w e ks d fs (took t) g)) (λ t. pick_ahead w cs vs ks c fs took rest t g o r))
+        (pick_extends cs vs ls ks c fs took others rest s p g o q r)
 
     pub all_extends : (es : CoreTrees) (ls ks : Levels) (c : Vars) (fs : Funs) (s : Target) → Below ls ks → Grow ks → Extends (eval_all w es ls c fs s) (eval_all w es ks c fs s)
     all_extends end ls ks c fs s p g = refl

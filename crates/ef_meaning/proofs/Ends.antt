@@ -36,6 +36,10 @@ extends_ahead xs (Waits s) f p q = subst (λ g. Ahead xs g) (sym p) q
 extends_ahead xs (More s) f p q = ahead_trans xs s.outside.events f q p
 extends_ahead xs Wrong f p q = subst (λ g. Ahead xs g) (sym p) q
 
+-- what a change of a state shows, it shows behind the events that were there
+abbrev pub OnlyAdds : {F : Type 0} → (State F → State F) → Type 0
+OnlyAdds {F = F} took = (s : State F) → Begins s.outside.events (took s).outside.events
+
 pub if_ahead : {A F : Type 0} (xs : List Event) (t : Bool) (e f : End A (State F)) → Ahead xs e → Ahead xs f → Ahead xs (if t then e else f)
 if_ahead xs true e f p q = p
 if_ahead xs false e f p q = q

@@ -1,5 +1,5 @@
 -- The Core of the examples keeps the meaning of their source: by the lemmas of the lowering.
-use Rattle.std.proofs.Common.{◌≡◌, ◌≢◌, codes, ℕ, ◌||◌, ◌==◌, Bool, true, false, List, [], ◌∷◌, ⊎_elim, inl, inr, refl, sym, ap, arith}
+use Rattle.std.proofs.Common.{◌≡◌, ◌≢◌, codes, ℕ, ◌==◌, true, List, [], ◌∷◌, ⊎_elim, inl, inr, refl, sym, ap, arith}
 use Rattle.std.proofs.lemmas.Bool.Decides.{nat_tests}
 use Rattle.ef_base.specs.declared.name.Name.{Name}
 use Rattle.ef_base.specs.Texts.{text}
@@ -16,17 +16,14 @@ use Rattle.ef_meaning.specs.Lowers.{KeepsBody, KeepsFunctions, KeepsDefinition, 
 use Rattle.ef_meaning.specs.Rows.{CoreKeeps}
 use Rattle.ef_meaning.specs.Examples as e
 use Rattle.ef_meaning.specs.Examples.{table, two_calls, two_calls_defs, core_two_calls, dropped_value, dropped_value_defs, core_dropped_value, ordered, ordered_defs, core_ordered}
+use Rattle.ef_meaning.specs.Matching.{named_value, named_value_defs, core_named_value}
 use Rattle.ef_meaning.proofs.Appends.{atom_appends, var_appends, nil_appends, call_appends, remote_appends, argument_appends, put_appends, both_append, last_appends, expression_appends, finish_keeps}
 use Rattle.ef_meaning.proofs.Bodies.{function_keeps}
 use Rattle.ef_meaning.proofs.Kept.{module_keeps}
+use Rattle.ef_meaning.proofs.NamedValue.{named_definition}
 
 alone : {A : Type 0} (x : A) → IsAmong x [] → ⊥
 alone x h = h
-
--- a condition on one parameter
-covered : (F : Bool → Bool) → F false ≡ false → (b : Bool) → F b ≡ true → (b || false) ≡ true
-covered F none true p = refl
-covered F none false p = absurd cc
 
 abbrev one : Name → List Bind
 one x = env_from 0 (x ∷ [])
@@ -100,10 +97,10 @@ k_key n = record { name = e.k_name; arity = n }
 
 -- functions of one parameter, and of none
 one_built : (defs : List FunctionName) (n x : Name) (es : List Tree) → text table n ≢ codes "module_info" → AreBuilt table defs (trees es) → IsBuiltFunction table defs (e.function n 1 (x ∷ []) es)
-one_built defs n x es differ built = (no_info (record { name = n; arity = 1 }) differ, ((x ∷ [], (refl, tt), (alone x, tt)), built))
+one_built defs n x es differ built = (no_info (record { name = n; arity = 1 }) differ, (refl, (tt, tt), built, tt))
 
 none_built : (defs : List FunctionName) (n : Name) (es : List Tree) → text table n ≢ codes "module_info" → AreBuilt table defs (trees es) → IsBuiltFunction table defs (e.function n 0 [] es)
-none_built defs n es differ built = (no_info (record { name = n; arity = 0 }) differ, (([], tt, tt), built))
+none_built defs n es differ built = (no_info (record { name = n; arity = 0 }) differ, (refl, tt, built, tt))
 
 two_built : IsBuilt table two_calls
 two_built = record {
@@ -116,8 +113,8 @@ two_built = record {
   );
 }
 
-two_bound : IsBoundModule two_calls
-two_bound = ((omega arith, (λ y p. covered (λ b. ((b || false) || false) || false) refl (9 == y) p), tt), ((omega arith, (λ y p. covered (λ b. (b || false) || false) refl (10 == y) p), tt), tt))
+two_bound : IsBoundModule table two_calls
+two_bound = (((omega arith, tt), refl), (((omega arith, tt), refl), tt))
 
 dropped_built : IsBuilt table dropped_value
 dropped_built = record {
@@ -127,8 +124,8 @@ dropped_built = record {
   bodies = (one_built (f_key ∷ []) e.f_name e.x_name (e.remote e.g_name e.h_name (e.var e.x_name ∷ []) ∷ e.var e.x_name ∷ []) (λ p. absurd cc) (((λ p. absurd cc), tt, (tt, tt)), (tt, tt)), tt);
 }
 
-dropped_bound : IsBoundModule dropped_value
-dropped_bound = ((omega arith, (λ y p. covered (λ b. (b || false) || (b || false)) refl (9 == y) p), tt), tt)
+dropped_bound : IsBoundModule table dropped_value
+dropped_bound = (((omega arith, tt), refl), tt)
 
 ordered_built : IsBuilt table ordered
 ordered_built = record {
@@ -142,8 +139,19 @@ ordered_built = record {
   );
 }
 
-ordered_bound : IsBoundModule ordered
-ordered_bound = ((omega arith, (λ y p. covered (λ b. (b || false) || false) refl (9 == y) p), tt), ((omega arith, (λ y p. absurd cc), tt), tt))
+ordered_bound : IsBoundModule table ordered
+ordered_bound = (((omega arith, tt), refl), (((omega arith, tt), refl), tt))
+
+named_built : IsBuilt table named_value
+named_built = record {
+  functions = (alone f_key, tt);
+  exports = (alone f_key, tt);
+  exported = (inl (inl refl), tt);
+  bodies = ((no_info f_key (λ p. absurd cc), (refl, (tt, tt), ((tt, ((λ p. absurd cc), tt, (tt, tt))), ((tt, (tt, tt)), tt)), tt)), tt);
+}
+
+named_bound : IsBoundModule table named_value
+named_bound = (((omega arith, tt), refl), tt)
 
 pub core_keeps : CoreKeeps
 core_keeps =
@@ -153,5 +161,6 @@ core_keeps =
     record {
       answered = module_keeps table two_calls core_two_calls (whole two_calls two_calls_defs refl two) two_built two_bound;
       dropped = module_keeps table dropped_value core_dropped_value (whole dropped_value dropped_value_defs refl drop) dropped_built dropped_bound;
+      named = module_keeps table named_value core_named_value (whole named_value named_value_defs refl (named_definition, tt)) named_built named_bound;
       left_to_right = module_keeps table ordered core_ordered (whole ordered ordered_defs refl order) ordered_built ordered_bound;
     }

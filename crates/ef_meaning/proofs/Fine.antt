@@ -3,7 +3,8 @@ use Rattle.std.proofs.Common.{◌≡◌, ◌≢◌, ℕ, zero, suc, ◌≤◌, �
 use Rattle.std.specs.Prelude.{slice_get}
 use Rattle.ef_base.specs.declared.name.Name.{Name}
 use Rattle.ef_base.specs.Texts.{text}
-use Rattle.ef_forms.specs.Tree.{Tree, Shape, Trees, Clauses, tree, int, atom, var, call, remote, end, more, no_guard, or_guard, no_clauses, clause, count}
+use Rattle.ef_forms.specs.Tree.{Tree, Shape, Trees, Clauses, tree, int, atom, var, any, list, list_to, tuple, matching, call, remote, end, more, no_guard, or_guard, no_clauses, clause, count}
+use Rattle.ef_forms.specs.Ways.{NameSet, no_names, union, names, shape_names, all_names}
 use Rattle.ef_meaning.specs.Value.{Value, Atom, Local, External, Made, some, values_of}
 use Rattle.ef_meaning.specs.Exception.{Class, Error, function_clause}
 use Rattle.ef_meaning.specs.Lookup.{FunctionKey, find, keys, nth}
@@ -11,20 +12,21 @@ use Rattle.ef_meaning.specs.Proper.{Known, is_proper, are_proper, has_function, 
 use Rattle.ef_meaning.specs.Outside.{Item, Answer, Raise, Arrive, TimeUp, CallBack, Returned, Excepted, Called, GaveBack, with_items, arrived, shows}
 use Rattle.ef_meaning.specs.End.{End, Gives, Raises, Waits, More, Wrong, and_then, and_either}
 use Rattle.ef_meaning.specs.Called as called
-use Rattle.ef_meaning.specs.Called.{Apply, is_applicable, fits, takes, taken, answered, apply}
+use Rattle.ef_meaning.specs.Called.{Apply, is_applicable, fits, takes, taken, outside_call, answered, apply}
+use Rattle.ef_meaning.specs.Pure.{pure}
 use Rattle.ef_meaning.specs.Match.{Bindings, value_of, match_all}
-use Rattle.ef_meaning.specs.Source.{Function, Body, by_clauses, information, Source, Levels, Module, applied, of_arity, arities, side, beside, eval, eval_shape, eval_all, eval_body, pick, run_body, levels, target, named, chosen}
+use Rattle.ef_meaning.specs.Match as source_match
+use Rattle.ef_meaning.specs.Source.{Function, Body, by_clauses, information, Source, Levels, Module, applied, of_arity, arities, side, beside, eval, eval_shape, eval_all, eval_body, pick, run_body, levels, target, named, matched, chosen}
 use Rattle.ef_meaning.proofs.CalledLaws.{back}
+use Rattle.ef_meaning.proofs.Covers.{IsBoundTo, Covers, Follows, nothing, follows_refl, follows_trans, swap, still, covers_union, tree_follows, all_follows}
 
 -- ---- what is safe
-
-abbrev pub IsBoundTo : Name → Bindings → Type 0
-IsBoundTo n b = (v : Value) × (value_of n b ≡ Some v)
 
 abbrev pub IsFound : Module → List ℕ → ℕ → Type 0
 IsFound w f a = (g : Function) × (find f a w.functions ≡ Some g)
 
-module _ (w : Module) (b : Bindings) where
+-- under these names
+module _ (w : Module) (s : NameSet) where
   abbrev mutual
     pub IsSafe : Tree → Type 0
     IsSafe (tree p e) = IsSafeShape e
@@ -32,7 +34,12 @@ module _ (w : Module) (b : Bindings) where
     pub IsSafeShape : Shape → Type 0
     IsSafeShape (int i) = Unit {0}
     IsSafeShape (atom n) = Unit {0}
-    IsSafeShape (var n) = IsBoundTo n b
+    IsSafeShape (var n) = s n.index ≡ true
+    IsSafeShape any = ⊥
+    IsSafeShape (list es) = AreSafe es
+    IsSafeShape (list_to es e) = AreSafe es × IsSafe e
+    IsSafeShape (tuple es) = AreSafe es
+    IsSafeShape (matching p e) = IsSafe e
     IsSafeShape (call f es) = IsSafeTarget f (count es) × AreSafe es
     IsSafeShape (remote m f es) = IsSafe m × IsSafe f × AreSafe es
 
@@ -45,14 +52,18 @@ module _ (w : Module) (b : Bindings) where
     AreSafe end = Unit {0}
     AreSafe (more e es) = IsSafe e × AreSafe es
 
--- whatever the patterns match, the body is safe
-abbrev pub AreSafeClauses : Module → Bindings → Clauses → Type 0
-AreSafeClauses w saved no_clauses = Unit {0}
-AreSafeClauses w saved (clause p ps g body cs) =
-    (g ≡ no_guard) × (1 ≤ count body) × ((vs : List Value) (b : Bindings) → match_all w.texts ps vs saved ≡ Some b → AreSafe w b body) × AreSafeClauses w saved cs
+-- each expression of a body, under the names of those before it too
+abbrev pub AreSafeInTurn : Module → NameSet → Trees → Type 0
+AreSafeInTurn w s end = Unit {0}
+AreSafeInTurn w s (more e es) = IsSafe w s e × AreSafeInTurn w (union s (names e)) es
 
+abbrev pub AreSafeClauses : Module → NameSet → Clauses → Type 0
+AreSafeClauses w s no_clauses = Unit {0}
+AreSafeClauses w s (clause p ps g body cs) = (g ≡ no_guard) × (1 ≤ count body) × AreSafeInTurn w (union s (all_names ps)) body × AreSafeClauses w s cs
+
+-- under names that are bound in what it saves
 abbrev pub IsSafeBody : Module → Body → Type 0
-IsSafeBody w (by_clauses cs saved) = AreSafeClauses w saved cs
+IsSafeBody w (by_clauses cs saved) = (s : NameSet) × Covers s saved × AreSafeClauses w s cs
 IsSafeBody w information = Unit {0}
 
 abbrev pub AreSafeFunctions : Module → List Function → Type 0
@@ -89,7 +100,22 @@ either_fine w (Waits s) go bad p k l = tt
 either_fine w (More s) go bad p k l = tt
 either_fine w Wrong go bad p k l = p
 
+-- a weaker condition on answers
+pub weaken_fine : {A : Type 0} (w : Module) (P R : A → Type 0) (e : End A Source) → ((a : A) → P a → R a) → Fine w P e → Fine w R e
+weaken_fine w P R (Gives a t) h p = (h a p.0, p.1)
+weaken_fine w P R (Raises c v t) h p = p
+weaken_fine w P R (Waits t) h p = p
+weaken_fine w P R (More t) h p = p
+weaken_fine w P R Wrong h p = p
+
 -- ---- applications
+
+outside_fine : (w : Module) (calls : Source → End Value Source) → ((s : Source) → AreSafeFunctions w s.store → Fine w Any (calls s)) → (m f : List ℕ) (vs : List Value) (s : Source) → AreSafeFunctions w s.store → Fine w Any (outside_call calls m f vs s)
+outside_fine w calls k m f vs s all = by (pure m f vs)
+  where
+    by : (o : Option Value) → Fine w Any (called.called o (λ t. calls (shows (Called m f vs) t)) s)
+    by None = k (shows (Called m f vs) s) all
+    by (Some v) = (tt, all)
 
 -- a fun that stands for a function which is safe
 abbrev IsReadyFun : Module → Value → Source → Type 0
@@ -112,7 +138,7 @@ if_fine w false e f p q = q
 fun_fine : (w : Module) (ls : Levels) → LevelsFine w ls → ((s : Source) → AreSafeFunctions w s.store → Fine w Any (answered (side w) ls s)) → (f : Value) (vs : List Value) (s : Source) → IsReadyFun w f s → AreSafeFunctions w s.store → Fine w Any (apply (side w) ls f vs s)
 fun_fine w ls fine calls (Local f a) vs s ready all = if_fine w (length vs == a) _ _ (some_applied w (find f a w.functions) ready.0 ls vs s fine ready.1 ready.2 all) all
 fun_fine w ls fine calls (Made k a) vs s ready all = if_fine w (length vs == a) _ _ (some_applied w (of_arity a (nth s.store k)) ready.0 ls vs s fine ready.1 ready.2 all) all
-fun_fine w ls fine calls (External m f a) vs s ready all = if_fine w (length vs == a) _ _ (calls (shows (Called m f vs) s) all) all
+fun_fine w ls fine calls (External m f a) vs s ready all = if_fine w (length vs == a) _ _ (outside_fine w (answered (side w) ls) calls m f vs s all) all
 fun_fine w ls fine calls _ vs s ready all = all
 
 -- ---- proper funs are ready
@@ -184,7 +210,7 @@ module _ (w : Module) where
         (λ c v u r. answered_fine ls fine.1 (shows (GaveBack (Excepted c v)) u) r))
 
     pub remote_fine : (ls : Levels) → LevelsFine w ls → (m f : Value) (vs : List Value) (s : Source) → AreSafeFunctions w s.store → Fine w Any (called.remote (side w) ls m f vs s)
-    remote_fine ls fine (Atom m) (Atom f) vs s all = answered_fine ls fine (shows (Called m f vs) s) all
+    remote_fine ls fine (Atom m) (Atom f) vs s all = outside_fine w (answered (side w) ls) (answered_fine ls fine) m f vs s all
     remote_fine ls fine _ _ vs s all = all
 
     pub local_fine : (ls : Levels) → LevelsFine w ls → (f : List ℕ) (a : ℕ) (g : Function) → find f a w.functions ≡ Some g → (vs : List Value) (s : Source) → AreSafeFunctions w s.store → Fine w Any (apply (side w) ls (Local f a) vs s)
@@ -192,67 +218,80 @@ module _ (w : Module) where
 
     -- ---- expressions
 
-    -- the bindings stay
-    abbrev Stays : Bindings → (Value × Bindings) → Type 0
-    Stays b a = a.1 ≡ b
+    -- what was bound stays so, and these names are bound too
+    abbrev Binds : Bindings → NameSet → (Value × Bindings) → Type 0
+    Binds b t a = Follows b t a.1
 
-    abbrev StayAll : Bindings → (List Value × Bindings) → Type 0
-    StayAll b a = a.1 ≡ b
+    abbrev BindAll : Bindings → NameSet → (List Value × Bindings) → Type 0
+    BindAll b t a = Follows b t a.1
 
-    beside_fine : (b c : Bindings) (e : End Value Source) → c ≡ b → Fine w Any e → Fine w (Stays b) (beside c e)
-    beside_fine b c e same p = then_fine w Any (Stays b) e (λ v t. Gives (v, c) t) p (λ v t q all. (same, all))
+    beside_fine : (b c : Bindings) (t : NameSet) (e : End Value Source) → Follows b t c → Fine w Any e → Fine w (Binds b t) (beside c e)
+    beside_fine b c t e follows p = then_fine w Any (Binds b t) e (λ v u. Gives (v, c) u) p (λ v u q all. (follows, all))
 
-    module _ (b : Bindings) where
+    named_fine : (n : Name) (o : Option Value) (b : Bindings) (s : Source) → AreSafeFunctions w s.store → value_of n b ≡ o → IsBoundTo n b → Fine w (Binds b (λ y. n.index == y)) (named o b s)
+    named_fine n None b s all is p = absurd cc
+    named_fine n (Some v) b s all is p = (follows_refl b n p, all)
+
+    matched_fine : (p : Tree) (o : Option Bindings) (v : Value) (b : Bindings) (s : Source) → AreSafeFunctions w s.store → source_match.matches w.texts p v b ≡ o → Fine w (Binds b (names p)) (matched o v s)
+    matched_fine p None v b s all is = all
+    matched_fine p (Some c) v b s all is = (tree_follows w.texts p v b c is, all)
+
+    module _ (σ : NameSet) where
       mutual
-        eval_fine : (e : Tree) (ls : Levels) (c : Bindings) (s : Source) → LevelsFine w ls → AreSafeFunctions w s.store → c ≡ b → IsSafe w b e → Fine w (Stays b) (eval w e ls c s)
-        eval_fine (tree p e) ls c s fine all same is = shape_fine e ls c s fine all same is
+        eval_fine : (e : Tree) (ls : Levels) (b : Bindings) (s : Source) → LevelsFine w ls → AreSafeFunctions w s.store → Covers σ b → IsSafe w σ e → Fine w (Binds b (names e)) (eval w e ls b s)
+        eval_fine (tree p e) ls b s fine all covers is = shape_fine e ls b s fine all covers is
 
-        shape_fine : (e : Shape) (ls : Levels) (c : Bindings) (s : Source) → LevelsFine w ls → AreSafeFunctions w s.store → c ≡ b → IsSafeShape w b e → Fine w (Stays b) (eval_shape w e ls c s)
-        shape_fine (int i) ls c s fine all same is = (same, all)
-        shape_fine (atom n) ls c s fine all same is = (same, all)
-        shape_fine (var n) ls c s fine all same is = subst (λ o. Fine w (Stays b) (named o c s)) (sym (ap (value_of n) same ∙ is.1)) (same, all)
-        shape_fine (call (tree p (atom n)) es) ls c s fine all same is =
-            subst (λ o. Fine w (Stays b) (and_then (target o (text w.texts n) (count es) c s) (λ g t. and_then (eval_all w es ls g.1 t) (λ a u. beside a.1 (apply (side w) ls g.0 a.0 u))))) (sym is.0.1)
-            (then_fine w (StayAll b) (Stays b) (eval_all w es ls c s) _ (all_fine es ls c s fine all same is.1)
-            (λ a u i o. beside_fine b a.1 _ i (local_fine ls fine (text w.texts n) (count es) is.0.0 is.0.1 a.0 u o)))
-        shape_fine (call (tree p _) es) ls c s fine all same is = absurd is.0
-        shape_fine (remote m f es) ls c s fine all same is = then_fine w (Stays b) (Stays b) (eval w m ls c s) _ (eval_fine m ls c s fine all same is.0) (λ g t p q.
-            then_fine w (Stays b) (Stays b) (eval w f ls g.1 t) _ (eval_fine f ls g.1 t fine q p is.1) (λ h u r z.
-            then_fine w (StayAll b) (Stays b) (eval_all w es ls h.1 u) _ (all_fine es ls h.1 u fine z r is.2) (λ a x i o. beside_fine b a.1 _ i (remote_fine ls fine g.0 h.0 a.0 x o))))
+        shape_fine : (e : Shape) (ls : Levels) (b : Bindings) (s : Source) → LevelsFine w ls → AreSafeFunctions w s.store → Covers σ b → IsSafeShape w σ e → Fine w (Binds b (shape_names e)) (eval_shape w e ls b s)
+        shape_fine (int i) ls b s fine all covers is = (nothing b, all)
+        shape_fine (atom n) ls b s fine all covers is = (nothing b, all)
+        shape_fine (var n) ls b s fine all covers is = named_fine n (value_of n b) b s all refl (covers n is)
+        shape_fine any ls b s fine all covers is = absurd is
+        shape_fine (list es) ls b s fine all covers is = then_fine w (BindAll b (all_names es)) (Binds b (all_names es)) (eval_all w es ls b s) _ (all_fine es ls b s fine all covers is) (λ a t p q. (p, q))
+        shape_fine (list_to es e) ls b s fine all covers is = then_fine w (BindAll b (all_names es)) (Binds b (union (all_names es) (names e))) (eval_all w es ls b s) _ (all_fine es ls b s fine all covers is.0) (λ a t p q.
+            then_fine w (Binds a.1 (names e)) (Binds b (union (all_names es) (names e))) (eval w e ls a.1 t) _ (eval_fine e ls a.1 t fine q (still σ b (all_names es) a.1 covers p) is.1) (λ d u r z. (follows_trans p r, z)))
+        shape_fine (tuple es) ls b s fine all covers is = then_fine w (BindAll b (all_names es)) (Binds b (all_names es)) (eval_all w es ls b s) _ (all_fine es ls b s fine all covers is) (λ a t p q. (p, q))
+        shape_fine (matching p e) ls b s fine all covers is = then_fine w (Binds b (names e)) (Binds b (union (names p) (names e))) (eval w e ls b s) _ (eval_fine e ls b s fine all covers is) (λ a t q r.
+            weaken_fine w (Binds a.1 (names p)) (Binds b (union (names p) (names e))) _ (λ d z. swap b d.1 (names e) (names p) (follows_trans q z)) (matched_fine p _ a.0 a.1 t r refl))
+        shape_fine (call (tree p (atom n)) es) ls b s fine all covers is =
+            subst (λ o. Fine w (Binds b (union no_names (all_names es))) (and_then (target o (text w.texts n) (count es) b s) (λ g t. and_then (eval_all w es ls g.1 t) (λ a u. beside a.1 (apply (side w) ls g.0 a.0 u))))) (sym is.0.1)
+            (then_fine w (BindAll b (all_names es)) (Binds b (union no_names (all_names es))) (eval_all w es ls b s) _ (all_fine es ls b s fine all covers is.1)
+            (λ a u i o. beside_fine b a.1 _ _ (follows_trans (nothing b) i) (local_fine ls fine (text w.texts n) (count es) is.0.0 is.0.1 a.0 u o)))
+        shape_fine (call (tree p _) es) ls b s fine all covers is = absurd is.0
+        shape_fine (remote m f es) ls b s fine all covers is =
+            let last = union (names m) (union (names f) (all_names es)) in
+            then_fine w (Binds b (names m)) (Binds b last) (eval w m ls b s) _ (eval_fine m ls b s fine all covers is.0) (λ g t p q.
+            let first = still σ b (names m) g.1 covers p in
+            then_fine w (Binds g.1 (names f)) (Binds b last) (eval w f ls g.1 t) _ (eval_fine f ls g.1 t fine q first is.1) (λ h u r z.
+            then_fine w (BindAll h.1 (all_names es)) (Binds b last) (eval_all w es ls h.1 u) _ (all_fine es ls h.1 u fine z (still σ g.1 (names f) h.1 first r) is.2) (λ a x i o.
+            beside_fine b a.1 last _ (follows_trans p (follows_trans r i)) (remote_fine ls fine g.0 h.0 a.0 x o))))
 
-        all_fine : (es : Trees) (ls : Levels) (c : Bindings) (s : Source) → LevelsFine w ls → AreSafeFunctions w s.store → c ≡ b → AreSafe w b es → Fine w (StayAll b) (eval_all w es ls c s)
-        all_fine end ls c s fine all same is = (same, all)
-        all_fine (more e es) ls c s fine all same is = then_fine w (Stays b) (StayAll b) (eval w e ls c s) _ (eval_fine e ls c s fine all same is.0) (λ a t p q.
-            then_fine w (StayAll b) (StayAll b) (eval_all w es ls a.1 t) _ (all_fine es ls a.1 t fine q p is.1) (λ d u r z. (r, z)))
-
-      body_fine : (es : Trees) (ls : Levels) (c : Bindings) (s : Source) → LevelsFine w ls → AreSafeFunctions w s.store → c ≡ b → 1 ≤ count es → AreSafe w b es → Fine w (Stays b) (eval_body w es ls c s)
-      body_fine end ls c s fine all same full is = absurd (omega arith)
-      body_fine (more e end) ls c s fine all same full is = eval_fine e ls c s fine all same is.0
-      body_fine (more e (more d es)) ls c s fine all same full is = then_fine w (Stays b) (Stays b) (eval w e ls c s) _ (eval_fine e ls c s fine all same is.0) (λ a t p q. body_fine (more d es) ls a.1 t fine q p (omega arith) is.1)
-
-    -- ---- functions
+        all_fine : (es : Trees) (ls : Levels) (b : Bindings) (s : Source) → LevelsFine w ls → AreSafeFunctions w s.store → Covers σ b → AreSafe w σ es → Fine w (BindAll b (all_names es)) (eval_all w es ls b s)
+        all_fine end ls b s fine all covers is = (nothing b, all)
+        all_fine (more e es) ls b s fine all covers is = then_fine w (Binds b (names e)) (BindAll b (union (names e) (all_names es))) (eval w e ls b s) _ (eval_fine e ls b s fine all covers is.0) (λ a t p q.
+            then_fine w (BindAll a.1 (all_names es)) (BindAll b (union (names e) (all_names es))) (eval_all w es ls a.1 t) _ (all_fine es ls a.1 t fine q (still σ b (names e) a.1 covers p) is.1) (λ d u r z. (follows_trans p r, z)))
 
     abbrev AnyAnswer : (Value × Bindings) → Type 0
     AnyAnswer a = Unit {0}
 
-    clauses_fine : (cs : Clauses) (vs : List Value) (ls : Levels) (saved : Bindings) (s : Source) → LevelsFine w ls → AreSafeFunctions w s.store → AreSafeClauses w saved cs → Fine w AnyAnswer (pick w cs vs ls saved (λ t. t) (λ t. Raises Error function_clause t) s)
-    clauses_fine no_clauses vs ls saved s fine all is = all
-    clauses_fine (clause p ps (or_guard es gs) body cs) vs ls saved s fine all is = absurd cc
-    clauses_fine (clause p ps no_guard body cs) vs ls saved s fine all is = by (match_all w.texts ps vs saved) refl (clauses_fine cs vs ls saved s fine all is.3)
+    body_fine : (σ : NameSet) (es : Trees) (ls : Levels) (b : Bindings) (s : Source) → LevelsFine w ls → AreSafeFunctions w s.store → Covers σ b → 1 ≤ count es → AreSafeInTurn w σ es → Fine w AnyAnswer (eval_body w es ls b s)
+    body_fine σ end ls b s fine all covers full is = absurd (omega arith)
+    body_fine σ (more e end) ls b s fine all covers full is = weaken_fine w (Binds b (names e)) AnyAnswer (eval w e ls b s) (λ a p. tt) (eval_fine σ e ls b s fine all covers is.0)
+    body_fine σ (more e (more d es)) ls b s fine all covers full is = then_fine w (Binds b (names e)) AnyAnswer (eval w e ls b s) _ (eval_fine σ e ls b s fine all covers is.0)
+        (λ a t p q. body_fine (union σ (names e)) (more d es) ls a.1 t fine q (covers_union σ (names e) b a.1 covers p) (omega arith) is.1)
+
+    -- ---- functions
+
+    clauses_fine : (σ : NameSet) (cs : Clauses) (vs : List Value) (ls : Levels) (saved : Bindings) (s : Source) → LevelsFine w ls → AreSafeFunctions w s.store → Covers σ saved → AreSafeClauses w σ cs → Fine w AnyAnswer (pick w cs vs ls saved (λ t. t) (λ t. Raises Error function_clause t) s)
+    clauses_fine σ no_clauses vs ls saved s fine all covers is = all
+    clauses_fine σ (clause p ps (or_guard es gs) body cs) vs ls saved s fine all covers is = absurd cc
+    clauses_fine σ (clause p ps no_guard body cs) vs ls saved s fine all covers is = by (match_all w.texts ps vs saved) refl (clauses_fine σ cs vs ls saved s fine all covers is.3)
       where
         by : (o : Option Bindings) → match_all w.texts ps vs saved ≡ o → Fine w AnyAnswer (pick w cs vs ls saved (λ t. t) (λ t. Raises Error function_clause t) s) → Fine w AnyAnswer (chosen o (λ c. eval_body w body ls c s) (pick w cs vs ls saved (λ t. t) (λ t. Raises Error function_clause t) s))
         by None e q = q
-        by (Some b) e q = weaken (eval_body w body ls b s) (body_fine b body ls b s fine all refl is.1 (is.2 vs b e))
-          where
-            weaken : (e : End (Value × Bindings) Source) → Fine w (Stays b) e → Fine w AnyAnswer e
-            weaken (Gives a t) p = (tt, p.1)
-            weaken (Raises c v t) p = p
-            weaken (Waits t) p = p
-            weaken (More t) p = p
-            weaken Wrong p = p
+        by (Some b) e q = body_fine (union σ (all_names ps)) body ls b s fine all (covers_union σ (all_names ps) saved b covers (all_follows w.texts ps (values_of vs) saved b e)) is.1 is.2
 
     run_fine : (ls : Levels) (f : Body) (vs : List Value) (s : Source) → LevelsFine w ls → AreSafeFunctions w s.store → IsSafeBody w f → Fine w Any (run_body w ls f vs s)
-    run_fine ls (by_clauses cs saved) vs s fine all is = then_fine w AnyAnswer Any (pick w cs vs ls saved (λ t. t) (λ t. Raises Error function_clause t) s) _ (clauses_fine cs vs ls saved s fine all is) (λ a t p q. (tt, q))
+    run_fine ls (by_clauses cs saved) vs s fine all is = then_fine w AnyAnswer Any (pick w cs vs ls saved (λ t. t) (λ t. Raises Error function_clause t) s) _ (clauses_fine is.0 cs vs ls saved s fine all is.1 is.2) (λ a t p q. (tt, q))
     run_fine ls information vs s fine all is = remote_fine ls fine (Atom (codes "erlang")) (Atom (codes "get_module_info")) (Atom w.name ∷ vs) s all
 
     pub levels_fine : (n : ℕ) → LevelsFine w (levels w n)

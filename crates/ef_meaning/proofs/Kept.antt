@@ -3,7 +3,7 @@ use Rattle.std.proofs.Common.{◌≡◌, ◌≢◌, ℕ, ◌&&◌, ◌==◌, inl
 use Rattle.std.proofs.lemmas.Bool.Decides.{nat_tests}
 use Rattle.ef_base.specs.declared.name.Name.{Name}
 use Rattle.ef_base.specs.Texts.{Texts, Extends, text}
-use Rattle.ef_base.specs.Laws.{extends_same, extends_later}
+use Rattle.ef_base.specs.Laws.{extends_same}
 use Rattle.ef_core.specs.declared.literal.CoreVar.{CoreVar}
 use Rattle.ef_core.specs.declared.literal.CoreVar.TheVariants.{Numbered}
 use Rattle.ef_core.specs.Plain as plain
@@ -23,32 +23,23 @@ use Rattle.ef_meaning.specs.Core as core
 use Rattle.ef_meaning.specs.Core.{CoreModule, Code, Target, one_value}
 use Rattle.ef_meaning.specs.Bound.{IsBoundModule}
 use Rattle.ef_meaning.specs.Runs.{Run, ShowsOn, Agrees, Follows, KeepsMeaning, shown, start, source_run}
-use Rattle.ef_meaning.specs.Lowers.{Entry, Includes, Bodies, Related, Alike, CallsKept, Worlds, KeepsFunction, KeepsDefinition, KeepDefinitions, IsInformation, KeepsFunctions}
+use Rattle.ef_meaning.specs.Lowers.{Entry, Includes, Bodies, Related, Alike, CallsKept, Worlds, KeepsDefinition, KeepDefinitions, IsInformation, KeepsFunctions}
 use Rattle.ef_meaning.proofs.Parts.{includes_left, includes_right, bodies_both}
 use Rattle.ef_meaning.proofs.Simulate.{keeps_same}
-use Rattle.ef_meaning.proofs.Remote.{shown_steady, remote_keeps}
+use Rattle.ef_meaning.proofs.Remote.{remote_steady, remote_keeps}
 use Rattle.ef_meaning.proofs.Calls.{one_keeps}
 use Rattle.ef_meaning.proofs.Whole.{FunctionsKept, BothKept, all_kept}
 use Rattle.ef_meaning.proofs.Meant.{runs_meant}
+use Rattle.ef_meaning.proofs.Later.{function_later}
 
 -- ---- what is kept in a table is kept in a later one
-
-world_earlier : (now all : Texts) (w : source.Module) (cw : CoreModule) → Extends now all → Worlds all w cw → Worlds now w cw
-world_earlier now all w cw later world = record { begins = extends_later later world.begins; texts = world.texts; functions = world.functions }
-
-pub function_later : (now all : Texts) (f : source.Body) (params : List CoreVar) (body : CoreTree) → Extends now all → KeepsFunction now f params body → KeepsFunction all f params body
-function_later now all f params body later k = record {
-  made = k.made;
-  bodies = λ w cw world. k.bodies w cw (world_earlier now all w cw later world);
-  keeps = λ w cw world. k.keeps w cw (world_earlier now all w cw later world);
-}
 
 pub definitions_later : (now all : Texts) (fs : List FunctionTree) (ds : List DefTree) → Extends now all → KeepDefinitions now fs ds → KeepDefinitions all fs ds
 definitions_later now all [] [] later k = tt
 definitions_later now all [] (d ∷ ds) later k = absurd k
 definitions_later now all (f ∷ fs) [] later k = absurd k
 definitions_later now all (f ∷ fs) (d ∷ ds) later k =
-    (record { name = k.0.name; arity = k.0.arity; parameters = k.0.parameters; keeps = function_later now all (by_clauses f.clauses []) d.params d.body later k.0.keeps }, definitions_later now all fs ds later k.1)
+    (record { name = k.0.name; arity = k.0.arity; parameters = k.0.parameters; keeps = function_later now all later (by_clauses f.clauses []) d.params d.body k.0.keeps }, definitions_later now all fs ds later k.1)
 
 -- ---- entries
 
@@ -122,7 +113,7 @@ module _ (all : Texts) (m : ModuleTree) (ds : List DefTree) (d0 d1 : DefTree) (k
         ∙ run i.erlang i.get_module_info vs (core.levels cw j) t (len ∙ ap (λ (l : List CoreVar). length l) i.parameters)
         ∙ ap (λ z. one_value (remote (core.side cw) (core.levels cw j) (Atom z) (Atom (text all i.get_module_info)) (Atom w.name ∷ vs) t)) i.erlang_text
         ∙ ap (λ z. one_value (remote (core.side cw) (core.levels cw j) E (Atom z) (Atom w.name ∷ vs) t)) i.get_module_info_text) x)
-        (one_keeps cw made en n (remote (source.side w) (source.levels w n) E G (Atom w.name ∷ vs) s) (λ j. remote (core.side cw) (core.levels cw j) E G (Atom w.name ∷ vs) t) (shown_steady cw _ t).extends
+        (one_keeps cw made en n (remote (source.side w) (source.levels w n) E G (Atom w.name ∷ vs) s) (λ j. remote (core.side cw) (core.levels cw j) E G (Atom w.name ∷ vs) t) (remote_steady cw E G (Atom w.name ∷ vs) t).extends
         (remote_keeps w cw world.functions made en n (λ j lt. calls j (omega arith)) (codes "erlang") (codes "get_module_info") (Atom w.name ∷ vs) s t same));
   }
 
@@ -239,7 +230,7 @@ module _ (all : Texts) (m : ModuleTree) (ds : List DefTree) (d0 d1 : DefTree) (k
         by (Waits t) h p = sym (same_shown all m ds d0 d1 k i0 i1 (Ends r n) (Waits t) (meant n) p)
         by Wrong h p = absurd (h refl)
 
-pub module_keeps : (all : Texts) (m : ModuleTree) (t : CoreModuleTree) → KeepsFunctions all m t → IsBuilt all m → IsBoundModule m → KeepsMeaning all m t
+pub module_keeps : (all : Texts) (m : ModuleTree) (t : CoreModuleTree) → KeepsFunctions all m t → IsBuilt all m → IsBoundModule all m → KeepsMeaning all m t
 module_keeps all m t k built bound =
     let same : record { texts = all; functions = map (core.defined all) (k.functions ++ (k.information ∷ k.item ∷ [])) } ≡ core.module_of all t = λ i. record { texts = all; functions = map (core.defined all) (sym k.definitions i) } in
     record {

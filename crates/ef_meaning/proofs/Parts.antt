@@ -165,6 +165,17 @@ put_keeps now e n0 env0 added n1 env1 value k = record {
       (record { values = (here n1 a.0 r.1, tt); names = describes_more n1 env1 a.1 r.1 a.0 k.below after.names; agree = agree_more n0 n1 d r.1 a.0 k.drawn after.agree }) q)));
 }
 
+-- variables that are drawn and not used
+pub drawn_keeps : (now : Texts) (es : List Tree) (n0 : ℕ) (env0 : List Bind) (added : List StepTree) (n1 : ℕ) (env1 : List Bind) (xs : List CoreTree) (m : ℕ) → n1 ≤ m → KeepsAll now es n0 env0 added n1 env1 xs → KeepsAll now es n0 env0 added m env1 xs
+drawn_keeps now es n0 env0 added n1 env1 xs m le k = record {
+  drawn = let first = k.drawn in omega arith;
+  below = are_below_more n1 m env1 le k.below;
+  arguments_drawn = drawn_more n1 m xs le k.arguments_drawn;
+  made = k.made;
+  bodies = k.bodies;
+  keeps = k.keeps;
+}
+
 -- ---- what is made of arguments
 
 module _ (now : Texts) (es : List Tree) (n0 : ℕ) (env0 : List Bind) (added : List StepTree) (n1 : ℕ) (env1 : List Bind) (xs : List CoreTree) (k : KeepsAll now es n0 env0 added n1 env1 xs) where

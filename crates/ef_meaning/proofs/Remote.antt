@@ -1,11 +1,12 @@
 -- Calls of what is outside, which may apply funs, are kept.
-use Rattle.std.proofs.Common.{◌≡◌, ℕ, zero, suc, ◌<◌, Bool, true, false, if◌then◌else◌, List, [], ◌∷◌, ◌++◌, length, refl, sym, ap, ◌∙◌, subst, arith}
+use Rattle.std.proofs.Common.{◌≡◌, ℕ, zero, suc, ◌<◌, Bool, true, false, if◌then◌else◌, List, [], ◌∷◌, ◌++◌, length, Option, Some, None, refl, sym, ap, ◌∙◌, subst, arith}
 use Rattle.ef_meaning.specs.Value.{Value, Atom}
 use Rattle.ef_meaning.specs.Proper.{Known}
 use Rattle.ef_meaning.specs.Lookup.{keys}
 use Rattle.ef_meaning.specs.Outside.{Event, Item, Answer, Raise, Arrive, TimeUp, CallBack, Returned, Excepted, Called, GaveBack, State, with_items, arrived, shows}
 use Rattle.ef_meaning.specs.End.{End, Gives, Raises, Waits, More}
-use Rattle.ef_meaning.specs.Called.{Apply, fits, takes, taken, answered, apply, remote}
+use Rattle.ef_meaning.specs.Called.{Apply, fits, takes, taken, called, outside_call, answered, apply, remote}
+use Rattle.ef_meaning.specs.Pure.{pure}
 use Rattle.ef_meaning.specs.Keeps.{Begins, Ahead, Keeps}
 use Rattle.ef_meaning.specs.Source as source
 use Rattle.ef_meaning.specs.Source.{Module, Source}
@@ -13,7 +14,7 @@ use Rattle.ef_meaning.specs.Core as core
 use Rattle.ef_meaning.specs.Core.{CoreModule, Code, Target}
 use Rattle.ef_meaning.specs.Lowers.{Entry, SameFuns, Related, Alike, CallsKept}
 use Rattle.ef_meaning.proofs.Ends.{begins_refl}
-use Rattle.ef_meaning.proofs.CalledLaws.{back, apply_ahead, apply_extends, answered_extends, shown_answered}
+use Rattle.ef_meaning.proofs.CalledLaws.{back, apply_ahead, apply_extends, remote_ahead, remote_extends, answered_extends, shown_answered}
 use Rattle.ef_meaning.proofs.SourceLaws as source_laws
 use Rattle.ef_meaning.proofs.CoreLaws as core_laws
 use Rattle.ef_meaning.proofs.Simulate.{Steady, keeps_same, const_keeps, one_more, from_zero, either_keeps}
@@ -29,6 +30,12 @@ pub shown_steady : (cw : CoreModule) (e : Event) (t : Target) → Steady t.outsi
 shown_steady cw e t = record {
   ahead = λ m. shown_answered (core.side cw) (core.levels cw m) e t (core_laws.side_grows cw (core.levels cw m) (core_laws.levels_grow cw m));
   extends = λ m k le. answered_extends (core.side cw) (core.levels cw m) (core.levels cw k) (core_laws.side_below cw (core.levels cw m) (core.levels cw k) (core_laws.levels_below cw m k le) (core_laws.levels_grow cw k)) (core_laws.side_grows cw (core.levels cw k) (core_laws.levels_grow cw k)) (shows e t);
+}
+
+pub remote_steady : (cw : CoreModule) (g h : Value) (vs : List Value) (t : Target) → Steady t.outside.events (λ m. remote (core.side cw) (core.levels cw m) g h vs t)
+remote_steady cw g h vs t = record {
+  ahead = λ m. remote_ahead (core.side cw) (core.levels cw m) g h vs t (core_laws.side_grows cw (core.levels cw m) (core_laws.levels_grow cw m));
+  extends = λ m k le. remote_extends (core.side cw) (core.levels cw m) (core.levels cw k) g h vs t (core_laws.side_below cw (core.levels cw m) (core.levels cw k) (core_laws.levels_below cw m k le) (core_laws.levels_grow cw k)) (core_laws.side_grows cw (core.levels cw k) (core_laws.levels_grow cw k));
 }
 
 pub source_grows : (w : Module) (n : ℕ) (f : Value) (vs : List Value) (s : Source) → Ahead s.outside.events (apply (source.side w) (source.levels w n) f vs s)
@@ -112,5 +119,13 @@ module _ (w : Module) (cw : CoreModule) (functions : keys cw.functions ≡ keys 
       (answered_keeps n (λ j lt. calls j (omega arith)) (shows (GaveBack (Returned u)) a) (shows (GaveBack (Returned u)) b) (shows_related (GaveBack (Returned u)) a b p)))
       (λ c v a b p. answered_keeps n (λ j lt. calls j (omega arith)) (shows (GaveBack (Excepted c v)) a) (shows (GaveBack (Excepted c v)) b) (shows_related (GaveBack (Excepted c v)) a b p)))))
 
+  pub outside_keeps : (n : ℕ) → ((k : ℕ) → k < n → CallsKept w cw all k) → (m f : List ℕ) (vs : List Value) (s : Source) (t : Target) → Q s t →
+      Keeps Alike Q n (outside_call (answered (source.side w) (source.levels w n)) m f vs s) (λ k. outside_call (answered (core.side cw) (core.levels cw k)) m f vs t)
+  outside_keeps n calls m f vs s t q = by (pure m f vs)
+    where
+      by : (o : Option Value) → Keeps Alike Q n (called o (λ x. answered (source.side w) (source.levels w n) (shows (Called m f vs) x)) s) (λ k. called o (λ y. answered (core.side cw) (core.levels cw k) (shows (Called m f vs) y)) t)
+      by None = answered_keeps n calls (shows (Called m f vs) s) (shows (Called m f vs) t) (shows_related (Called m f vs) s t q)
+      by (Some v) = const_keeps Alike Q n (Gives v s) (Gives v t) (refl, q)
+
   pub remote_keeps : (n : ℕ) → ((k : ℕ) → k < n → CallsKept w cw all k) → (m f : List ℕ) (vs : List Value) (s : Source) (t : Target) → Q s t → Keeps Alike Q n (remote (source.side w) (source.levels w n) (Atom m) (Atom f) vs s) (λ k. remote (core.side cw) (core.levels cw k) (Atom m) (Atom f) vs t)
-  remote_keeps n calls m f vs s t q = answered_keeps n calls (shows (Called m f vs) s) (shows (Called m f vs) t) (shows_related (Called m f vs) s t q)
+  remote_keeps n calls m f vs s t q = outside_keeps n calls m f vs s t q

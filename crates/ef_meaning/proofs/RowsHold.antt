@@ -7,7 +7,7 @@ use Rattle.ef_meaning.specs.Source as source
 use Rattle.ef_meaning.specs.Core as core
 use Rattle.ef_meaning.specs.Runs.{shown, start}
 use Rattle.ef_meaning.specs.Examples.{table, endless, core_endless}
-use Rattle.ef_meaning.specs.Rows.{Rows, on}
+use Rattle.ef_meaning.specs.Rows.{MatchRows, Rows, on}
 
 abbrev w : source.Module
 w = source.module_of table endless
@@ -37,4 +37,24 @@ rows_hold = record {
   called_back = (refl, refl);
   called_badly = (refl, refl);
   information = (refl, refl);
+}
+
+pub match_rows_hold : MatchRows
+match_rows_hold = record {
+  pair_at_front = refl;
+  last_alone = refl;
+  no_items = refl;
+  no_list = refl;
+  compared_across = refl;
+  not_across = refl;
+  same_parts = refl;
+  other_parts = refl;
+  no_parts = refl;
+  compared_before = (refl, refl);
+  bound_the_same = (refl, refl);
+  compared_beside = refl;
+  equal_twice = (refl, refl);
+  other_twice = (refl, refl);
+  no_tuple = (refl, refl);
+  called_back = (refl, refl);
 }

@@ -2,15 +2,15 @@
 use Rattle.std.proofs.Common.{ℕ, zero, suc, ◌≤◌, codes, List, [], ◌∷◌, Option, Some, None, refl, arith}
 use Rattle.ef_base.specs.Texts.{text}
 use Rattle.ef_meaning.specs.Lookup.{find}
-use Rattle.ef_forms.specs.Tree.{Tree, Shape, Trees, Guards, Clauses, tree, int, atom, var, call, remote, end, more, no_guard, or_guard, no_clauses, clause, count}
+use Rattle.ef_forms.specs.Tree.{Tree, Shape, Trees, Guards, Clauses, tree, int, atom, var, any, list, list_to, tuple, matching, call, remote, end, more, no_guard, or_guard, no_clauses, clause, count}
 use Rattle.ef_meaning.specs.Value.{Value, Atom}
 use Rattle.ef_meaning.specs.Exception.{Error, function_clause}
 use Rattle.ef_meaning.specs.End.{End, Raises}
 use Rattle.ef_meaning.specs.Called.{apply}
 use Rattle.ef_meaning.specs.Keeps.{Ahead, Extends}
-use Rattle.ef_meaning.specs.Match.{Bindings, value_of, match_all}
-use Rattle.ef_meaning.specs.Source.{Function, Body, by_clauses, information, Source, Answer, Levels, Module, applied, function_of, side, named, target, beside, chosen, guarded, eval, eval_shape, eval_target, eval_all, eval_body, pick, run_body, levels, source}
-use Rattle.ef_meaning.proofs.Ends.{begins_refl, extends_refl, then_ahead, then_extends}
+use Rattle.ef_meaning.specs.Match.{Bindings, value_of, matches, match_all}
+use Rattle.ef_meaning.specs.Source.{Function, Body, by_clauses, information, Source, Answer, Levels, Module, applied, function_of, side, named, matched, target, beside, chosen, guarded, eval, eval_shape, eval_target, eval_all, eval_body, pick, run_body, levels, source}
+use Rattle.ef_meaning.proofs.Ends.{OnlyAdds, begins_refl, ahead_trans, extends_refl, then_ahead, then_extends}
 use Rattle.ef_meaning.proofs.CalledLaws.{SideGrows, SideBelow, apply_ahead, apply_extends, remote_ahead, remote_extends}
 
 -- ---- events only grow
@@ -31,6 +31,10 @@ side_grows w (l ∷ ls) g = (λ f vs s. applied_ahead (function_of w f s) (l ∷
 named_ahead : (o : Option Value) (b : Bindings) (s : Source) → Ahead s.outside.events (named o b s)
 named_ahead None b s = tt
 named_ahead (Some v) b s = begins_refl s.outside.events
+
+pub matched_ahead : (o : Option Bindings) (v : Value) (s : Source) → Ahead s.outside.events (matched o v s)
+matched_ahead None v s = begins_refl s.outside.events
+matched_ahead (Some b) v s = begins_refl s.outside.events
 
 found_ahead : (o : Option Function) (f : List ℕ) (arity : ℕ) (b : Bindings) (s : Source) → Ahead s.outside.events (target o f arity b s)
 found_ahead None f arity b s = tt
@@ -56,6 +60,11 @@ module _ (w : Module) where
     shape_ahead (int i) ls b s g = begins_refl s.outside.events
     shape_ahead (atom n) ls b s g = begins_refl s.outside.events
     shape_ahead (var n) ls b s g = named_ahead (value_of n b) b s
+    shape_ahead any ls b s g = tt
+    shape_ahead (list es) ls b s g = then_ahead _ (eval_all w es ls b s) _ (all_ahead es ls b s g) (λ a t. begins_refl t.outside.events)
+    shape_ahead (list_to es e) ls b s g = then_ahead _ (eval_all w es ls b s) _ (all_ahead es ls b s g) (λ a t. then_ahead _ (eval w e ls a.1 t) _ (eval_ahead e ls a.1 t g) (λ d u. begins_refl u.outside.events))
+    shape_ahead (tuple es) ls b s g = then_ahead _ (eval_all w es ls b s) _ (all_ahead es ls b s g) (λ a t. begins_refl t.outside.events)
+    shape_ahead (matching p e) ls b s g = then_ahead _ (eval w e ls b s) _ (eval_ahead e ls b s g) (λ a t. matched_ahead (matches w.texts p a.0 a.1) a.0 t)
     shape_ahead (call f es) ls b s g = then_ahead _ (eval_target w f (count es) ls b s) _ (target_ahead f (count es) ls b s g) (λ h t.
         then_ahead _ (eval_all w es ls h.1 t) _ (all_ahead es ls h.1 t g) (λ a u. beside_ahead a.1 _ u (apply_ahead (side w) ls (side_grows w ls g) h.0 a.0 u)))
     shape_ahead (remote m f es) ls b s g = then_ahead _ (eval w m ls b s) _ (eval_ahead m ls b s g) (λ h t. then_ahead _ (eval w f ls h.1 t) _ (eval_ahead f ls h.1 t g) (λ k u.
@@ -74,12 +83,14 @@ module _ (w : Module) where
   body_ahead (more e end) ls b s g = eval_ahead e ls b s g
   body_ahead (more e (more d es)) ls b s g = then_ahead _ (eval w e ls b s) _ (eval_ahead e ls b s g) (λ a t. body_ahead (more d es) ls a.1 t g)
 
-  clauses_ahead : (cs : Clauses) (vs : List Value) (ls : Levels) (b : Bindings) (s : Source) → Grow ls → Ahead s.outside.events (pick w cs vs ls b (λ t. t) (λ t. Raises Error function_clause t) s)
-  clauses_ahead no_clauses vs ls b s g = begins_refl s.outside.events
-  clauses_ahead (clause p ps h body cs) vs ls b s g = chosen_ahead (match_all w.texts ps vs b) s _ _ (λ c. guarded_ahead h (eval_body w body ls c s) s (body_ahead body ls c s g)) (clauses_ahead cs vs ls b s g)
+  pub pick_ahead : (cs : Clauses) (vs : List Value) (ls : Levels) (b : Bindings) (took : Source → Source) (others : Source → Answer) (s : Source) → Grow ls → OnlyAdds took → ((t : Source) → Ahead t.outside.events (others t)) →
+      Ahead s.outside.events (pick w cs vs ls b took others s)
+  pick_ahead no_clauses vs ls b took others s g p q = q s
+  pick_ahead (clause r ps h body cs) vs ls b took others s g p q = chosen_ahead (match_all w.texts ps vs b) s _ _
+      (λ c. guarded_ahead h (eval_body w body ls c (took s)) s (ahead_trans _ _ (eval_body w body ls c (took s)) (p s) (body_ahead body ls c (took s) g))) (pick_ahead cs vs ls b took others s g p q)
 
   run_ahead : (ls : Levels) (f : Body) (vs : List Value) (s : Source) → Grow ls → Ahead s.outside.events (run_body w ls f vs s)
-  run_ahead ls (by_clauses cs saved) vs s g = then_ahead _ (pick w cs vs ls saved (λ t. t) (λ t. Raises Error function_clause t) s) _ (clauses_ahead cs vs ls saved s g) (λ a t. begins_refl t.outside.events)
+  run_ahead ls (by_clauses cs saved) vs s g = then_ahead _ (pick w cs vs ls saved (λ t. t) (λ t. Raises Error function_clause t) s) _ (pick_ahead cs vs ls saved (λ t. t) (λ t. Raises Error function_clause t) s g (λ t. begins_refl t.outside.events) (λ t. begins_refl t.outside.events)) (λ a t. begins_refl t.outside.events)
   run_ahead ls information vs s g = remote_ahead (side w) ls (Atom (codes "erlang")) (Atom (codes "get_module_info")) (Atom w.name ∷ vs) s (side_grows w ls g)
 
   pub levels_grow : (n : ℕ) → Grow (levels w n)
@@ -127,6 +138,14 @@ module _ (w : Module) where
     shape_extends (int i) ls ks b s p g = refl
     shape_extends (atom n) ls ks b s p g = refl
     shape_extends (var n) ls ks b s p g = extends_refl (named (value_of n b) b s)
+    shape_extends any ls ks b s p g = refl
+    shape_extends (list es) ls ks b s p g = then_extends (eval_all w es ls b s) (eval_all w es ks b s) _ _ (all_extends es ls ks b s p g) (λ a t. refl) (λ a t. begins_refl t.outside.events)
+    shape_extends (list_to es e) ls ks b s p g = then_extends (eval_all w es ls b s) (eval_all w es ks b s) _ _ (all_extends es ls ks b s p g)
+        (λ a t. then_extends (eval w e ls a.1 t) (eval w e ks a.1 t) _ _ (eval_extends e ls ks a.1 t p g) (λ d u. refl) (λ d u. begins_refl u.outside.events))
+        (λ a t. then_ahead _ (eval w e ks a.1 t) _ (eval_ahead w e ks a.1 t g) (λ d u. begins_refl u.outside.events))
+    shape_extends (tuple es) ls ks b s p g = then_extends (eval_all w es ls b s) (eval_all w es ks b s) _ _ (all_extends es ls ks b s p g) (λ a t. refl) (λ a t. begins_refl t.outside.events)
+    shape_extends (matching q e) ls ks b s p g = then_extends (eval w e ls b s) (eval w e ks b s) _ _ (eval_extends e ls ks b s p g)
+        (λ a t. extends_refl (matched (matches w.texts q a.0 a.1) a.0 t)) (λ a t. matched_ahead (matches w.texts q a.0 a.1) a.0 t)
     shape_extends (call f es) ls ks b s p g = then_extends (eval_target w f (count es) ls b s) (eval_target w f (count es) ks b s) _ _ (target_extends f (count es) ls ks b s p g)
         (λ h t. then_extends (eval_all w es ls h.1 t) (eval_all w es ks h.1 t) _ _ (all_extends es ls ks h.1 t p g)
         (λ a u. beside_extends a.1 _ _ (apply_extends (side w) ls ks (side_below w ls ks p g) (side_grows w ks g) h.0 a.0 u))
@@ -158,13 +177,14 @@ module _ (w : Module) where
   body_extends (more e (more d es)) ls ks b s p g = then_extends (eval w e ls b s) (eval w e ks b s) _ _ (eval_extends e ls ks b s p g)
       (λ a t. body_extends (more d es) ls ks a.1 t p g) (λ a t. body_ahead w (more d es) ks a.1 t g)
 
-  clauses_extends : (cs : Clauses) (vs : List Value) (ls ks : Levels) (b : Bindings) (s : Source) → Below ls ks → Grow ks → Extends (pick w cs vs ls b (λ t. t) (λ t. Raises Error function_clause t) s) (pick w cs vs ks b (λ t. t) (λ t. Raises Error function_clause t) s)
-  clauses_extends no_clauses vs ls ks b s p g = refl
-  clauses_extends (clause q ps h body cs) vs ls ks b s p g = chosen_extends (match_all w.texts ps vs b) _ _ _ _
-      (λ c. guarded_extends h (eval_body w body ls c s) (eval_body w body ks c s) (body_extends body ls ks c s p g)) (clauses_extends cs vs ls ks b s p g)
+  pub pick_extends : (cs : Clauses) (vs : List Value) (ls ks : Levels) (b : Bindings) (took : Source → Source) (others rest : Source → Answer) (s : Source) → Below ls ks → Grow ks → ((t : Source) → Extends (others t) (rest t)) →
+      Extends (pick w cs vs ls b took others s) (pick w cs vs ks b took rest s)
+  pick_extends no_clauses vs ls ks b took others rest s p g q = q s
+  pick_extends (clause r ps h body cs) vs ls ks b took others rest s p g q = chosen_extends (match_all w.texts ps vs b) _ _ _ _
+      (λ c. guarded_extends h (eval_body w body ls c (took s)) (eval_body w body ks c (took s)) (body_extends body ls ks c (took s) p g)) (pick_extends cs vs ls ks b took others rest s p g q)
 
   run_extends : (ls ks : Levels) (f : Body) (vs : List Value) (s : Source) → Below ls ks → Grow ks → Extends (run_body w ls f vs s) (run_body w ks f vs s)
-  run_extends ls ks (by_clauses cs saved) vs s p g = then_extends _ _ _ _ (clauses_extends cs vs ls ks saved s p g) (λ a t. refl) (λ a t. begins_refl t.outside.events)
+  run_extends ls ks (by_clauses cs saved) vs s p g = then_extends _ _ _ _ (pick_extends cs vs ls ks saved (λ t. t) (λ t. Raises Error function_clause t) (λ t. Raises Error function_clause t) s p g (λ t. refl)) (λ a t. refl) (λ a t. begins_refl t.outside.events)
   run_extends ls ks information vs s p g = remote_extends (side w) ls ks (Atom (codes "erlang")) (Atom (codes "get_module_info")) (Atom w.name ∷ vs) s (side_below w ls ks p g) (side_grows w ks g)
 
   levels_below : (m n : ℕ) → m ≤ n → Below (levels w m) (levels w n)

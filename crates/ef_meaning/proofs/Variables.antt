@@ -26,7 +26,7 @@ pub there : (n : ℕ) (y : CoreVar) (v : Value) (c : Vars) → IsBelow n y → v
 there n (Numbered i) v c lt = let other : (n == i) ≡ false = grind (arith, nat_tests) in rw other refl
 there n (Named m) v c lt = refl
 
-below_more : (m n : ℕ) (y : CoreVar) → m ≤ n → IsBelow m y → IsBelow n y
+pub below_more : (m n : ℕ) (y : CoreVar) → m ≤ n → IsBelow m y → IsBelow n y
 below_more m n (Numbered i) le lt = omega arith
 below_more m n (Named x) le lt = tt
 
@@ -34,14 +34,14 @@ pub are_below_more : (m n : ℕ) (env : List Bind) → m ≤ n → AreBelow m en
 are_below_more m n [] le p = tt
 are_below_more m n (b ∷ bs) le p = (below_more m n b.var le p.0, are_below_more m n bs le p.1)
 
+pub drawn_later : (m n : ℕ) (e : CoreTree) → m ≤ n → IsDrawn m e → IsDrawn n e
+drawn_later m n (c.var x) le q = below_more m n x le q
+drawn_later m n (c.lit l) le q = tt
+drawn_later m n _ le q = absurd q
+
 pub drawn_more : (m n : ℕ) (es : List CoreTree) → m ≤ n → AreDrawn m es → AreDrawn n es
 drawn_more m n [] le p = tt
-drawn_more m n (e ∷ es) le p = (one e p.0, drawn_more m n es le p.1)
-  where
-    one : (e : CoreTree) → IsDrawn m e → IsDrawn n e
-    one (c.var x) q = below_more m n x le q
-    one (c.lit l) q = tt
-    one _ q = absurd q
+drawn_more m n (e ∷ es) le p = (drawn_later m n e le p.0, drawn_more m n es le p.1)
 
 pub drawn_append : (n : ℕ) (es fs : List CoreTree) → AreDrawn n es → AreDrawn n fs → AreDrawn n (es ++ fs)
 drawn_append n [] fs p q = q
@@ -72,12 +72,16 @@ agree_refl n c = record { each = λ y lt. refl }
 pub agree_more : (m n : ℕ) (c d : Vars) (v : Value) → m ≤ n → Agree m c d → Agree m c ((Numbered n, v) ∷ d)
 agree_more m n c d v le q = record { each = λ y lt. there n y v d (below_more m n y le lt) ∙ q.each y lt }
 
+-- fewer variables
+pub agree_fewer : (m n : ℕ) (c d : Vars) → m ≤ n → Agree n c d → Agree m c d
+agree_fewer m n c d le q = record { each = λ y lt. q.each y (below_more m n y le lt) }
+
 pub agree_trans : (m n : ℕ) (c d x : Vars) → m ≤ n → Agree m c d → Agree n d x → Agree m c x
 agree_trans m n c d x le p q = record { each = λ y lt. q.each y (below_more m n y le lt) ∙ p.each y lt }
 
 -- ---- arguments
 
-value_agree : (all : Texts) (n : ℕ) (e : CoreTree) (v : Value) (d x : Vars) → IsDrawn n e → Agree n d x → IsValue all e v d → IsValue all e v x
+pub value_agree : (all : Texts) (n : ℕ) (e : CoreTree) (v : Value) (d x : Vars) → IsDrawn n e → Agree n d x → IsValue all e v d → IsValue all e v x
 value_agree all n (c.var y) v d x p a q = a.each y p ∙ q
 value_agree all n (c.lit l) v d x p a q = q
 value_agree all n _ v d x p a q = absurd q

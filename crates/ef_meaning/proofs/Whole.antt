@@ -6,9 +6,8 @@ use Rattle.ef_base.specs.Texts.{Texts}
 use Rattle.ef_meaning.specs.Value.{Value, Integer, Atom, Tuple, Nil, Cons, BitString, Pid, Port, Reference, Local, External, Made}
 use Rattle.ef_meaning.specs.Exception.{Error, badfun, badarity}
 use Rattle.ef_meaning.specs.Lookup.{find, nth}
-use Rattle.ef_meaning.specs.Outside.{Called, shows}
 use Rattle.ef_meaning.specs.End.{End, Gives, Raises, More, and_then}
-use Rattle.ef_meaning.specs.Called.{apply, answered}
+use Rattle.ef_meaning.specs.Called.{outside_call, answered, apply}
 use Rattle.ef_meaning.specs.Keeps.{Begins, Ahead, Equals, Keeps}
 use Rattle.ef_meaning.specs.Source as source
 use Rattle.ef_meaning.specs.Source.{Module, Source, Function, by_clauses}
@@ -19,7 +18,7 @@ use Rattle.ef_meaning.proofs.Ends.{begins_refl, then_gives}
 use Rattle.ef_meaning.proofs.CoreLaws as core_laws
 use Rattle.ef_meaning.proofs.Simulate.{keeps_same, const_keeps, gives_keeps, wrong_keeps, one_more, then_keeps}
 use Rattle.ef_meaning.proofs.Steps.{const_steady}
-use Rattle.ef_meaning.proofs.Remote.{shows_related, answered_keeps}
+use Rattle.ef_meaning.proofs.Remote.{outside_keeps}
 
 -- two functions that are kept wherever calls are, of this number of parameters
 pub record FunctionsKept (w : Module) (cw : CoreModule) (all : List Entry) (a : ℕ) (f : Function) (g : Code) : Type 0 where
@@ -114,8 +113,7 @@ module _ (now : Texts) (w : Module) (cw : CoreModule) (world : Worlds now w cw) 
           (f : Value) (vs : List Value) (s : Source) (t : Target) → Q s t → Keeps Alike Q n (apply (source.side w) (source.levels w n) f vs s) (λ m. apply (core.side cw) (core.levels cw m) f vs t)
       applied_keeps n calls own (Local f a) vs s t same = tested_keeps n a (Local f a) vs s t same _ (λ m. and_then (core.applied (find f a cw.functions) (core.levels cw m) vs t) single) (λ len. own a (find f a w.functions) (find f a cw.functions) (pairs f a) vs s t len same)
       applied_keeps n calls own (Made k a) vs s t same = tested_keeps n a (Made k a) vs s t same _ (λ m. and_then (core.applied (nth t.store.made k) (core.levels cw m) vs t) single) (λ len. own a (source.of_arity a (nth s.store k)) (nth t.store.made k) (made_at a s.store t.store.made k same.funs) vs s t len same)
-      applied_keeps n calls own (External m f a) vs s t same = tested_keeps n a (External m f a) vs s t same _ (λ i. answered (core.side cw) (core.levels cw i) (shows (Called m f vs) t))
-          (λ len. answered_keeps w cw world.functions all en n calls (shows (Called m f vs) s) (shows (Called m f vs) t) (shows_related w cw world.functions all en (Called m f vs) s t same))
+      applied_keeps n calls own (External m f a) vs s t same = tested_keeps n a (External m f a) vs s t same _ (λ i. outside_call (answered (core.side cw) (core.levels cw i)) m f vs t) (λ len. outside_keeps w cw world.functions all en n calls m f vs s t same)
       applied_keeps n calls own (Integer i) vs s t same = bad_keeps n (Integer i) s t same
       applied_keeps n calls own (Atom x) vs s t same = bad_keeps n (Atom x) s t same
       applied_keeps n calls own (Tuple us) vs s t same = bad_keeps n (Tuple us) s t same

@@ -1,16 +1,16 @@
--- Functions whose names are bound, and whose bodies are not empty.
-use Rattle.std.specs.Prelude.{ℕ, ◌≤◌, ◌≡◌, true}
+-- Modules without faults of names, whose bodies are not empty.
+use Rattle.std.specs.Prelude.{◌≤◌, ◌≡◌, []}
+use Rattle.ef_base.specs.Texts.{Texts}
 use Rattle.ef_forms.specs.Tree.{Clauses, FunctionTree, ModuleTree, no_clauses, clause, count}
 use Rattle.ef_forms.specs.Built.{Each, functions_in}
-use Rattle.ef_forms.specs.Ways.{all_names}
+use Rattle.ef_forms.specs.Ways.{function_faults}
 
--- each name of the body is one of the parameters
-abbrev pub AreBound : Clauses → Type 0
-AreBound no_clauses = Unit {0}
-AreBound (clause p ps g body cs) = (1 ≤ count body) × ((y : ℕ) → all_names body y ≡ true → all_names ps y ≡ true) × AreBound cs
+abbrev pub HaveBodies : Clauses → Type 0
+HaveBodies no_clauses = Unit {0}
+HaveBodies (clause p ps g body cs) = (1 ≤ count body) × HaveBodies cs
 
-abbrev pub IsBoundFunction : FunctionTree → Type 0
-IsBoundFunction f = AreBound f.clauses
+abbrev pub IsBoundFunction : Texts → FunctionTree → Type 0
+IsBoundFunction all f = HaveBodies f.clauses × (function_faults all f ≡ [])
 
-abbrev pub IsBoundModule : ModuleTree → Type 0
-IsBoundModule m = Each IsBoundFunction (functions_in m.forms)
+abbrev pub IsBoundModule : Texts → ModuleTree → Type 0
+IsBoundModule all m = Each (IsBoundFunction all) (functions_in m.forms)

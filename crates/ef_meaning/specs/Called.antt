@@ -5,6 +5,7 @@ use Rattle.ef_meaning.specs.Exception.{Error, badarg, badfun, badarity}
 use Rattle.ef_meaning.specs.Proper.{Known, is_proper, are_proper}
 use Rattle.ef_meaning.specs.Outside.{Item, Answer, Raise, Arrive, TimeUp, CallBack, Returned, Excepted, Called, GaveBack, State, with_items, arrived, shows}
 use Rattle.ef_meaning.specs.End.{End, Gives, Raises, Waits, More, and_either}
+use Rattle.ef_meaning.specs.Pure.{pure}
 
 -- how a fun value is applied
 abbrev pub Apply : Type 0 → Type 0
@@ -18,7 +19,7 @@ pub record Side (F L : Type 0) : Type 0 where
 
 -- ---- items
 
--- funs that the outside may apply; none of `erlang`, some of whose functions are pure, which is not built yet
+-- funs that the outside may apply; none of `erlang`, not all of whose pure functions are built yet
 abbrev pub is_applicable : Value → Bool
 is_applicable (Local f a) = true
 is_applicable (External m f a) = not (bytes_eq m (codes "erlang"))
@@ -60,9 +61,17 @@ abbrev pub tested : {F : Type 0} → Option ℕ → Apply F → Apply F
 tested None go f vs s = Raises Error (badfun f) s
 tested (Some a) go f vs s = if length vs == a then go f vs s else Raises Error (badarity f vs) s
 
--- a function of another module is called, by what a call does; the others are a meaning's own
+-- a pure function gives its value; another one of another module is called, by what a call does
+abbrev pub called : {F : Type 0} → Option Value → (State F → End Value (State F)) → State F → End Value (State F)
+called (Some v) calls s = Gives v s
+called None calls s = calls s
+
+abbrev pub outside_call : {F : Type 0} → (State F → End Value (State F)) → List ℕ → List ℕ → List Value → State F → End Value (State F)
+outside_call calls m f vs s = called (pure m f vs) (λ t. calls (shows (Called m f vs) t)) s
+
+-- an external fun is one of another module; the others are a meaning's own
 abbrev pub by_kind : {F : Type 0} → (State F → End Value (State F)) → Apply F → Apply F
-by_kind calls own (External m f a) vs s = calls (shows (Called m f vs) s)
+by_kind calls own (External m f a) vs s = outside_call calls m f vs s
 by_kind calls own f vs s = own f vs s
 
 abbrev pub fun_applied : {F : Type 0} → (State F → End Value (State F)) → Apply F → Apply F
@@ -80,7 +89,7 @@ answered by (l ∷ ls) s = taken (by.known s.store) (λ f vs t.
 abbrev pub apply : {F L : Type 0} → Side F L → List L → Apply F
 apply by ls f vs s = fun_applied (answered by ls) (by.applies ls) f vs s
 
--- a remote call, of two atoms; the pure functions of `erlang` are not built yet, and no built module calls one
+-- a remote call, of two atoms
 abbrev pub remote : {F L : Type 0} → Side F L → List L → Value → Value → List Value → State F → End Value (State F)
-remote by ls (Atom m) (Atom f) vs s = answered by ls (shows (Called m f vs) s)
+remote by ls (Atom m) (Atom f) vs s = outside_call (answered by ls) m f vs s
 remote by ls _ _ vs s = Raises Error badarg s

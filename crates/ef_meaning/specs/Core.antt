@@ -1,15 +1,17 @@
 -- What an expression of Core means (Core Erlang 1.0.3, "Static semantics" and "Dynamic semantics").
-use Rattle.std.specs.Prelude.{ℕ, zero, suc, Bool, false, ◌&&◌, ◌==◌, if◌then◌else◌, List, [], ◌∷◌, map, length, Option, Some, None}
+use Rattle.std.specs.Prelude.{ℕ, zero, suc, Bool, false, ◌&&◌, ◌==◌, if◌then◌else◌, codes, bytes_eq, List, [], ◌∷◌, map, length, Option, Some, None}
 use Rattle.ef_base.specs.Texts.{Texts, text}
 use Rattle.ef_core.specs.declared.literal.CoreVar.{CoreVar}
 use Rattle.ef_core.specs.declared.literal.CoreVar.TheVariants.{Numbered, Named}
 use Rattle.ef_core.specs.declared.literal.FName.{FName}
 use Rattle.ef_core.specs.Tree as tree
-use Rattle.ef_core.specs.Tree.{LitTree, LitTrees, lit_list, lit_list_to, lit_tuple, no_lits, more_lits, CoreTree, CoreTrees, CoreSteps, DefTree, CoreModuleTree, var, lit, fun_name, lets, call, end, more, done, step}
-use Rattle.ef_meaning.specs.Value.{Value, Values, Integer, Atom, Tuple, Nil, Cons, Local, Made, none, some}
+use Rattle.ef_core.specs.Tree.{LitTree, LitTrees, lit_list, lit_list_to, lit_tuple, no_lits, more_lits, CoreTree, CoreTrees, CoreSteps, CoreClauses, PatTree, PatTrees, DefTree, CoreModuleTree, var, lit, fun_name, value_list, list, list_to, lets, case_of, call, primop, end, more, done, step, no_clauses, clause, pat_var, pat_lit, pat_tuple, pat_list, pat_list_to, alias, pat_bin, no_pats, more_pats}
+use Rattle.ef_meaning.specs.Value.{Value, Values, Integer, Atom, Tuple, Nil, Cons, Local, Made, none, some, values_of, list_value, list_onto, head_and_tail, elements, with_some}
+use Rattle.ef_meaning.specs.Same.{same_value}
+use Rattle.ef_meaning.specs.Exception.{Error, function_clause}
 use Rattle.ef_meaning.specs.Lookup.{FunctionKey, find, keys, nth}
 use Rattle.ef_meaning.specs.Outside.{State}
-use Rattle.ef_meaning.specs.End.{End, Gives, More, Wrong, and_then}
+use Rattle.ef_meaning.specs.End.{End, Gives, Raises, Waits, More, Wrong, and_then}
 use Rattle.ef_meaning.specs.Called.{Side, apply, remote}
 
 -- ---- variables and functions
@@ -116,6 +118,76 @@ abbrev mutual
   literals_onto all no_lits tail = tail
   literals_onto all (more_lits l ls) tail = Cons (literal all l) (literals_onto all ls tail)
 
+-- ---- matching
+
+abbrev pub compared : Value → Value → Vars → Option Vars
+compared u v c = if same_value u v then Some c else None
+
+module _ (all : Texts) where
+  abbrev mutual
+    -- whether a value matches a pattern, and the variables that result; binaries are not built yet
+    pub matches : PatTree → Value → Vars → Option Vars
+    matches (pat_var x) v c = Some ((x, v) ∷ c)
+    matches (pat_lit l) v c = compared (literal all l) v c
+    matches (pat_tuple ps) v c = with_some (elements v) (λ vs. match_values ps vs c)
+    matches (pat_list ps) v c = with_some (match_items ps v c) (λ r. compared Nil r.0 r.1)
+    matches (pat_list_to ps p) v c = with_some (match_items ps v c) (λ r. matches p r.0 r.1)
+    matches (alias x p) v c = matches p v ((x, v) ∷ c)
+    matches (pat_bin ss) v c = None
+
+    -- the front of a list matches these; its tail, and the variables that result
+    pub match_items : PatTrees → Value → Vars → Option (Value × Vars)
+    match_items no_pats v c = Some (v, c)
+    match_items (more_pats p ps) v c = with_some (head_and_tail v) (λ h. with_some (matches p h.0 c) (λ d. match_items ps h.1 d))
+
+    -- values match as many patterns
+    pub match_values : PatTrees → Values → Vars → Option Vars
+    match_values no_pats none c = Some c
+    match_values (more_pats p ps) (some v vs) c = with_some (matches p v c) (λ d. match_values ps vs d)
+    match_values _ _ c = None
+
+  abbrev pub match_all : PatTrees → List Value → Vars → Option Vars
+  match_all ps vs c = match_values ps (values_of vs) c
+
+-- ---- guards
+
+-- nothing was shown, no item was taken, and no fun was made
+abbrev pub unchanged : Target → Target → Bool
+unchanged s t =
+    length t.outside.events == length s.outside.events && (length t.outside.items == length s.outside.items && length t.store.made == length s.store.made)
+
+-- a guard gives `true` or `false`
+abbrev pub decided : List Value → Answer → Answer → Answer
+decided (Atom a ∷ []) first second = if bytes_eq a (codes "true") then first else (if bytes_eq a (codes "false") then second else Wrong)
+decided _ first second = Wrong
+
+-- and changes nothing
+abbrev pub guarded : Target → Answer → (Target → Answer) → (Target → Answer) → Answer
+guarded s (Gives vs t) body others = if unchanged s t then decided vs (body t) (others t) else Wrong
+guarded s (Raises k v t) body others = Wrong
+guarded s (Waits t) body others = Wrong
+guarded s (More t) body others = More t
+guarded s Wrong body others = Wrong
+
+abbrev pub chosen : Option Vars → (Vars → Answer) → Answer → Answer
+chosen None body others = others
+chosen (Some c) body others = body c
+
+-- ---- primitive operations
+
+abbrev pub is_function_clause : Value → Bool
+is_function_clause (Tuple (some (Atom a) vs)) = bytes_eq a (codes "function_clause")
+is_function_clause _ = false
+
+-- an error; a tuple that begins with `function_clause` stands for this reason alone
+abbrev pub match_fail : List Value → Target → Answer
+match_fail (v ∷ []) s = Raises Error (if is_function_clause v then function_clause else v) s
+match_fail _ s = Wrong
+
+-- the other operations are not built yet
+abbrev pub primitive : List ℕ → List Value → Target → Answer
+primitive f vs s = if bytes_eq f (codes "match_fail") then match_fail vs s else Wrong
+
 -- ---- expressions
 
 abbrev pub held_value : Option Value → Target → Answer
@@ -143,13 +215,27 @@ module _ (w : CoreModule) where
     eval (var x) ls c fs s = held_value (value_at x c) s
     eval (lit l) ls c fs s = Gives (literal w.texts l ∷ []) s
     eval (fun_name f) ls c fs s = function_value w.texts f (entry_of f fs) (find (text w.texts f.name) f.arity w.functions) s
+    eval (value_list es) ls c fs s = eval_all es ls c fs s
+    eval (tree.tuple es) ls c fs s = and_then (eval_all es ls c fs s) (λ vs t. Gives (Tuple (values_of vs) ∷ []) t)
+    eval (list es) ls c fs s = and_then (eval_all es ls c fs s) (λ vs t. Gives (list_value vs ∷ []) t)
+    eval (list_to es e) ls c fs s = and_then (eval_all es ls c fs s) (λ vs t. and_then (and_then (eval e ls c fs t) single) (λ v u. Gives (list_onto vs v ∷ []) u))
     eval (lets ss e) ls c fs s = and_then (eval_steps ss ls c fs s) (λ d t. eval e ls d fs t)
+    -- some clause is chosen
+    eval (case_of e cs) ls c fs s = and_then (eval e ls c fs s) (λ vs t. pick cs vs ls c fs (λ u. u) (λ u. Wrong) t)
     eval (tree.apply f es) ls c fs s = and_then (and_then (eval f ls c fs s) single) (λ g t.
         and_then (eval_all es ls c fs t) (λ vs u. one_value (apply (side w) ls g vs u)))
     eval (call m f es) ls c fs s = and_then (and_then (eval m ls c fs s) single) (λ g t. and_then (and_then (eval f ls c fs t) single) (λ h u.
         and_then (eval_all es ls c fs u) (λ vs x. one_value (remote (side w) ls g h vs x))))
+    eval (primop f es) ls c fs s = and_then (eval_all es ls c fs s) (λ vs t. primitive (text w.texts f) vs t)
     -- the other constructs are not built yet
     eval _ ls c fs s = Wrong
+
+    -- the first clause whose patterns match the values and whose guard is true; `took` is what the choice does to the state,
+    -- `others` what is done where no clause is chosen
+    pub pick : CoreClauses → List Value → Levels → Vars → Funs → (Target → Target) → (Target → Answer) → Target → Answer
+    pick no_clauses vs ls c fs took others s = others s
+    pick (clause ps g e cs) vs ls c fs took others s =
+        chosen (match_all w.texts ps vs c) (λ d. guarded s (eval g ls d fs s) (λ t. eval e ls d fs (took t)) (λ t. pick cs vs ls c fs took others t)) (pick cs vs ls c fs took others s)
 
     pub eval_all : CoreTrees → Levels → Vars → Funs → Target → Answer
     eval_all end ls c fs s = Gives [] s

@@ -16,7 +16,8 @@ use Rattle.ef_forms.specs.Plain.{trees}
 
 abbrev pub table : Texts
 table = codes "m" ∷ codes "f" ∷ codes "k" ∷ codes "g" ∷ codes "h" ∷ codes "i" ∷ codes "j" ∷ codes "a" ∷ codes "l" ∷ codes "X" ∷ codes "Y"
-    ∷ codes "erlang" ∷ codes "get_module_info" ∷ codes "module_info" ∷ []
+    ∷ codes "erlang" ∷ codes "get_module_info" ∷ codes "module_info" ∷ codes "Z" ∷ codes "T" ∷ codes "A" ∷ codes "B" ∷ codes "z" ∷ codes "true" ∷ codes "=:="
+    ∷ codes "match_fail" ∷ codes "function_clause" ∷ codes "badmatch" ∷ []
 
 abbrev pub numbered : ℕ → Name
 numbered n = record { index = n }
@@ -62,6 +63,36 @@ get_module_info_name = numbered 12
 
 abbrev pub module_info_name : Name
 module_info_name = numbered 13
+
+abbrev pub big_z_name : Name
+big_z_name = numbered 14
+
+abbrev pub t_name : Name
+t_name = numbered 15
+
+abbrev pub big_a_name : Name
+big_a_name = numbered 16
+
+abbrev pub b_name : Name
+b_name = numbered 17
+
+abbrev pub z_name : Name
+z_name = numbered 18
+
+abbrev pub true_name : Name
+true_name = numbered 19
+
+abbrev pub equal_name : Name
+equal_name = numbered 20
+
+abbrev pub match_fail_name : Name
+match_fail_name = numbered 21
+
+abbrev pub function_clause_name : Name
+function_clause_name = numbered 22
+
+abbrev pub badmatch_name : Name
+badmatch_name = numbered 23
 
 -- ---- the source, whose modules export f/1
 

@@ -11,6 +11,10 @@ pub data Class : Type 0 where
 abbrev pub function_clause : Value
 function_clause = Atom (codes "function_clause")
 
+-- a value that does not match the pattern of `=`
+abbrev pub badmatch : Value → Value
+badmatch v = pair_value (Atom (codes "badmatch")) v
+
 -- the module or the function of a remote call is no atom
 abbrev pub badarg : Value
 badarg = Atom (codes "badarg")

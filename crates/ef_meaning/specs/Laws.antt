@@ -1,11 +1,14 @@
 -- The laws of both meanings, as statements.
 use Rattle.std.specs.Prelude.{◌≡◌, ◌≢◌, ℕ, ◌≤◌, true}
+use Rattle.std.specs.Cmp.{IsTotalOrder}
+use Rattle.std.specs.declared.cmp.Ordering.TheVariants.{Equal}
 use Rattle.ef_base.specs.Texts.{Texts}
 use Rattle.ef_forms.specs.Tree.{Tree, ModuleTree}
 use Rattle.ef_forms.specs.Built.{IsBuilt}
 use Rattle.ef_core.specs.Tree.{CoreTree, CoreModuleTree}
 use Rattle.ef_meaning.specs.Value.{Value}
 use Rattle.ef_meaning.specs.Same.{same_value}
+use Rattle.ef_meaning.specs.Order.{compare}
 use Rattle.ef_meaning.specs.End.{Wrong}
 use Rattle.ef_meaning.specs.Bound.{IsBoundModule}
 use Rattle.ef_meaning.specs.Lowers.{KeepsFunctions}
@@ -20,6 +23,12 @@ pub record ValuesCompare : Type 0 where
   pub same : (u v : Value) → same_value u v ≡ true → u ≡ v
   pub itself : (v : Value) → same_value v v ≡ true
 
+-- values have a total order, in which two are equal exactly where they are the same
+pub record ValuesOrdered : Type 0 where
+  pub total : IsTotalOrder compare
+  pub same : (u v : Value) → compare u v ≡ Equal → u ≡ v
+  pub itself : (v : Value) → compare v v ≡ Equal
+
 -- an expression only adds events
 pub record EventsGrow : Type 0 where
   pub of_source : (w : source.Module) (n : ℕ) (e : Tree) (b : Bindings) (s : source.Source) → Ahead s.outside.events (source.source w n e b s)
@@ -32,8 +41,8 @@ pub record BoundsExtend : Type 0 where
 
 -- a run of a built module whose names are bound is never without meaning
 pub record SourceMeant : Type 0 where
-  pub each : (all : Texts) (m : ModuleTree) → IsBuilt all m → IsBoundModule m → (r : Run) → IsRun all m r → (n : ℕ) → source_run all m r n ≢ Wrong
+  pub each : (all : Texts) (m : ModuleTree) → IsBuilt all m → IsBoundModule all m → (r : Run) → IsRun all m r → (n : ℕ) → source_run all m r n ≢ Wrong
 
 -- a Core module whose functions keep the meaning of those of a source module keeps its meaning
 pub record ModulesKeep : Type 0 where
-  pub each : (all : Texts) (m : ModuleTree) (t : CoreModuleTree) → KeepsFunctions all m t → IsBuilt all m → IsBoundModule m → KeepsMeaning all m t
+  pub each : (all : Texts) (m : ModuleTree) (t : CoreModuleTree) → KeepsFunctions all m t → IsBuilt all m → IsBoundModule all m → KeepsMeaning all m t

@@ -1,9 +1,11 @@
 pub mod Value
 pub mod Same
+pub mod Order
 pub mod Proper
 pub mod Exception
 pub mod Outside
 pub mod End
+pub mod Pure
 pub mod Called
 pub mod Lookup
 pub mod Match
@@ -13,6 +15,10 @@ pub mod Keeps
 pub mod Runs
 pub mod Laws
 pub mod Lowers
+pub mod Patterns
+pub mod Cases
+pub mod Named
 pub mod Bound
 pub mod Examples
+pub mod Matching
 pub mod Rows

@@ -2,8 +2,8 @@
 use Rattle.std.specs.Prelude.{◌==◌, if◌then◌else◌, List, [], ◌∷◌, Option, Some, None}
 use Rattle.ef_base.specs.declared.name.Name.{Name}
 use Rattle.ef_base.specs.Texts.{Texts, text}
-use Rattle.ef_forms.specs.Tree.{Tree, Trees, tree, int, atom, var, end, more}
-use Rattle.ef_meaning.specs.Value.{Value, Integer, Atom}
+use Rattle.ef_forms.specs.Tree.{Tree, Shape, Trees, tree, int, atom, var, any, list, list_to, tuple, matching, call, remote, end, more}
+use Rattle.ef_meaning.specs.Value.{Value, Values, Integer, Atom, Nil, none, some, values_of, head_and_tail, elements, with_some}
 use Rattle.ef_meaning.specs.Same.{same_value}
 
 -- names and their values, the last one first
@@ -22,19 +22,34 @@ abbrev pub match_name : Name → Option Value → Value → Bindings → Option 
 match_name n None v b = Some ((n, v) ∷ b)
 match_name n (Some u) v b = compared u v b
 
-abbrev pub then_match : Option Bindings → (Bindings → Option Bindings) → Option Bindings
-then_match None go = None
-then_match (Some b) go = go b
+module _ (all : Texts) where
+  abbrev mutual
+    -- whether a value matches a pattern under bindings, and the bindings that result; a call or a match is no pattern
+    pub matches : Tree → Value → Bindings → Option Bindings
+    matches (tree p e) v b = matches_shape e v b
 
--- whether a value matches a pattern under bindings, and the bindings that result; a call is no pattern
-abbrev pub matches : Texts → Tree → Value → Bindings → Option Bindings
-matches all (tree p (int i)) v b = compared (Integer i) v b
-matches all (tree p (atom n)) v b = compared (Atom (text all n)) v b
-matches all (tree p (var n)) v b = match_name n (value_of n b) v b
-matches all _ v b = None
+    pub matches_shape : Shape → Value → Bindings → Option Bindings
+    matches_shape (int i) v b = compared (Integer i) v b
+    matches_shape (atom n) v b = compared (Atom (text all n)) v b
+    matches_shape (var n) v b = match_name n (value_of n b) v b
+    matches_shape any v b = Some b
+    matches_shape (list es) v b = with_some (match_items es v b) (λ r. compared Nil r.0 r.1)
+    matches_shape (list_to es e) v b = with_some (match_items es v b) (λ r. matches e r.0 r.1)
+    matches_shape (tuple es) v b = with_some (elements v) (λ vs. match_values es vs b)
+    matches_shape (matching p e) v b = None
+    matches_shape (call f es) v b = None
+    matches_shape (remote m f es) v b = None
 
--- values match as many patterns
-abbrev pub match_all : Texts → Trees → List Value → Bindings → Option Bindings
-match_all all end [] b = Some b
-match_all all (more p ps) (v ∷ vs) b = then_match (matches all p v b) (λ c. match_all all ps vs c)
-match_all all _ _ b = None
+    -- the front of a list matches these; its tail, and the bindings that result
+    pub match_items : Trees → Value → Bindings → Option (Value × Bindings)
+    match_items end v b = Some (v, b)
+    match_items (more p ps) v b = with_some (head_and_tail v) (λ c. with_some (matches p c.0 b) (λ d. match_items ps c.1 d))
+
+    -- values match as many patterns
+    pub match_values : Trees → Values → Bindings → Option Bindings
+    match_values end none b = Some b
+    match_values (more p ps) (some v vs) b = with_some (matches p v b) (λ c. match_values ps vs c)
+    match_values _ _ b = None
+
+  abbrev pub match_all : Trees → List Value → Bindings → Option Bindings
+  match_all ps vs b = match_values ps (values_of vs) b

@@ -3,11 +3,12 @@ use Rattle.std.specs.Prelude.{◌≡◌, ℕ, suc, codes, pos, List, [], ◌∷�
 use Rattle.ef_forms.specs.Tree.{ModuleTree}
 use Rattle.ef_core.specs.Tree.{CoreModuleTree}
 use Rattle.ef_meaning.specs.Value.{Value, Integer, Atom, Local, Made, list_value, pair_value}
-use Rattle.ef_meaning.specs.Exception.{Error, Exit}
+use Rattle.ef_meaning.specs.Exception.{Error, Exit, function_clause, badmatch}
 use Rattle.ef_meaning.specs.Outside.{Item, Answer, Raise, Arrive, TimeUp, CallBack, Returned, Excepted, Event, Called, GaveBack}
 use Rattle.ef_meaning.specs.End.{End, Gives, Raises, Waits, More}
 use Rattle.ef_meaning.specs.Runs.{Run, Shown, shown, source_run, core_run, KeepsMeaning}
 use Rattle.ef_meaning.specs.Examples.{table, identity, core_identity, two_calls, core_two_calls, dropped_value, core_dropped_value, endless, core_endless, ordered, core_ordered, outside_call, core_outside_call}
+use Rattle.ef_meaning.specs.Matching.{first_pair, across, taken_apart, named_value, core_named_value, same_twice, core_same_twice, bound_before, core_bound_before, bound_beside}
 
 abbrev number : ℕ → Value
 number n = Integer (pos n)
@@ -60,8 +61,42 @@ pub record Rows : Type 0 where
   pub information : BothShow identity core_identity (record { name = codes "module_info"; arguments = []; own = 0; items = Answer (number 1) ∷ [] }) 5
       (Gives (number 1) (seen (Called (codes "erlang") (codes "get_module_info") (Atom (codes "m") ∷ []) ∷ [])))
 
+-- the source ends so at this bound
+abbrev pub SourceShows : ModuleTree → Run → ℕ → End Value Shown → Type 0
+SourceShows m r n e = shown (source_run table m r n) ≡ e
+
+-- f/2
+abbrev pub on_both : Value → Value → Run
+on_both u v = record { name = codes "f"; arguments = u ∷ v ∷ []; own = 0; items = [] }
+
+pub record MatchRows : Type 0 where
+  -- a name that stands twice compares, and clauses are tried in order
+  pub pair_at_front : SourceShows first_pair (on (list_value (number 1 ∷ number 1 ∷ number 2 ∷ [])) []) 5 (Gives (pair_value (number 1) (list_value (number 2 ∷ []))) (seen []))
+  pub last_alone : SourceShows first_pair (on (list_value (number 1 ∷ number 2 ∷ [])) []) 5 (Gives (number 2) (seen []))
+  pub no_items : SourceShows first_pair (on (list_value []) []) 5 (Gives (Atom (codes "z")) (seen []))
+  pub no_list : SourceShows first_pair (on (number 1) []) 5 (Raises Error function_clause (seen []))
+  -- names are compared across the parameters
+  pub compared_across : SourceShows across (on_both (pair_value (number 1) (pair_value (number 2) (number 1))) (number 2)) 5 (Gives (pair_value (number 1) (number 2)) (seen []))
+  pub not_across : SourceShows across (on_both (pair_value (number 1) (pair_value (number 2) (number 3))) (number 2)) 5 (Raises Error function_clause (seen []))
+  -- a match takes an answer apart, and binds for what comes later
+  pub same_parts : SourceShows taken_apart (on (number 5) (Answer (pair_value (number 1) (number 1)) ∷ [])) 5 (Gives (pair_value (number 1) (number 1)) (seen (called_h 5 ∷ [])))
+  pub other_parts : SourceShows taken_apart (on (number 5) (Answer (pair_value (number 1) (number 2)) ∷ [])) 5 (Raises Error (badmatch (number 2)) (seen (called_h 5 ∷ [])))
+  pub no_parts : SourceShows taken_apart (on (number 5) (Answer (Atom (codes "a")) ∷ [])) 5 (Raises Error (badmatch (Atom (codes "a"))) (seen (called_h 5 ∷ [])))
+  -- a name that is bound before, or by an element before, compares
+  pub compared_before : BothShow bound_before core_bound_before (on (number 2) []) 5 (Raises Error (badmatch (number 1)) (seen []))
+  pub bound_the_same : BothShow bound_before core_bound_before (on (number 1) []) 5 (Gives (pair_value (number 1) (number 1)) (seen []))
+  pub compared_beside : SourceShows bound_beside (record { name = codes "f"; arguments = []; own = 0; items = [] }) 5 (Raises Error (badmatch (number 2)) (seen []))
+  -- Core compares by a call that shows nothing
+  pub equal_twice : BothShow same_twice core_same_twice (on (pair_value (number 1) (number 1)) []) 5 (Gives (number 1) (seen []))
+  pub other_twice : BothShow same_twice core_same_twice (on (pair_value (number 1) (number 2)) []) 5 (Raises Error function_clause (seen []))
+  pub no_tuple : BothShow same_twice core_same_twice (on (Atom (codes "x")) []) 5 (Raises Error function_clause (seen []))
+  -- the outside applies the function that called it
+  pub called_back : BothShow outside_call core_outside_call (on (Atom (codes "a")) (CallBack (Local (codes "f") 1) (number 2 ∷ []) ∷ Answer (Atom (codes "ok")) ∷ Answer (Atom (codes "done")) ∷ [])) 5
+      (Gives (Atom (codes "done")) (seen (Called (codes "g") (codes "h") (Atom (codes "a") ∷ []) ∷ called_h 2 ∷ GaveBack (Returned (Atom (codes "ok"))) ∷ [])))
+
 -- on every run the Core of these modules shows what their source does, and goes on where it does
 pub record CoreKeeps : Type 0 where
   pub answered : KeepsMeaning table two_calls core_two_calls
   pub dropped : KeepsMeaning table dropped_value core_dropped_value
   pub left_to_right : KeepsMeaning table ordered core_ordered
+  pub named : KeepsMeaning table named_value core_named_value

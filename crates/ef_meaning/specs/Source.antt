@@ -1,16 +1,16 @@
 -- What an expression of the source means (Erlang Reference Manual, "Expressions" and "Function Declaration Syntax").
 use Rattle.std.specs.Prelude.{ℕ, zero, suc, ◌==◌, if◌then◌else◌, codes, List, [], ◌∷◌, ◌++◌, map, Option, Some, None}
 use Rattle.ef_base.specs.Texts.{Texts, text}
-use Rattle.ef_forms.specs.Tree.{Tree, Shape, Trees, Guards, Clauses, FunctionTree, ModuleTree, tree, int, atom, var, call, remote, end, more, no_guard, or_guard, no_clauses, clause, count}
+use Rattle.ef_forms.specs.Tree.{Tree, Shape, Trees, Guards, Clauses, FunctionTree, ModuleTree, tree, int, atom, var, any, list, list_to, tuple, matching, call, remote, end, more, no_guard, or_guard, no_clauses, clause, count}
 use Rattle.ef_forms.specs.Built.{functions_in}
-use Rattle.ef_meaning.specs.Value.{Value, Integer, Atom, Local, Made}
-use Rattle.ef_meaning.specs.Exception.{Error, function_clause}
+use Rattle.ef_meaning.specs.Value.{Value, Integer, Atom, Tuple, Local, Made, values_of, list_value, list_onto}
+use Rattle.ef_meaning.specs.Exception.{Error, function_clause, badmatch}
 use Rattle.ef_meaning.specs.Lookup.{FunctionKey, find, keys, nth}
 use Rattle.ef_meaning.specs.Outside.{State}
 use Rattle.ef_meaning.specs.End.{End, Gives, Raises, More, Wrong, and_then}
 use Rattle.ef_meaning.specs.Called as called
 use Rattle.ef_meaning.specs.Called.{Side, apply}
-use Rattle.ef_meaning.specs.Match.{Bindings, value_of, match_all}
+use Rattle.ef_meaning.specs.Match.{Bindings, value_of, matches, match_all}
 
 -- ---- functions
 
@@ -80,6 +80,11 @@ abbrev pub named : Option Value → Bindings → Source → Answer
 named None b s = Wrong
 named (Some v) b s = Gives (v, b) s
 
+-- the value, under the bindings of a match
+abbrev pub matched : Option Bindings → Value → Source → Answer
+matched None v s = Raises Error (badmatch v) s
+matched (Some b) v s = Gives (v, b) s
+
 -- an atom that is called stands for the function of the module; one that isn't defined is a fault
 abbrev pub target : Option Function → List ℕ → ℕ → Bindings → Source → Answer
 target None f arity b s = Wrong
@@ -107,6 +112,13 @@ module _ (w : Module) where
     eval_shape (int i) ls b s = Gives (Integer i, b) s
     eval_shape (atom n) ls b s = Gives (Atom (text w.texts n), b) s
     eval_shape (var n) ls b s = named (value_of n b) b s
+    -- `_` is a fault
+    eval_shape any ls b s = Wrong
+    eval_shape (list es) ls b s = and_then (eval_all es ls b s) (λ a t. Gives (list_value a.0, a.1) t)
+    eval_shape (list_to es e) ls b s = and_then (eval_all es ls b s) (λ a t. and_then (eval e ls a.1 t) (λ d u. Gives (list_onto a.0 d.0, d.1) u))
+    eval_shape (tuple es) ls b s = and_then (eval_all es ls b s) (λ a t. Gives (Tuple (values_of a.0), a.1) t)
+    -- the expression, then the pattern
+    eval_shape (matching p e) ls b s = and_then (eval e ls b s) (λ a t. matched (matches w.texts p a.0 a.1) a.0 t)
     -- what is called, then the arguments
     eval_shape (call f es) ls b s = and_then (eval_target f (count es) ls b s) (λ g t.
         and_then (eval_all es ls g.1 t) (λ a u. beside a.1 (apply (side w) ls g.0 a.0 u)))

@@ -1,10 +1,11 @@
 // What is proved of the meanings. The functions do nothing: their contracts are the laws, and the examples.
-ghost use Rattle.ef_meaning.specs.Laws.{BoundsExtend, EventsGrow, ModulesKeep, SourceMeant, ValuesCompare};
-ghost use Rattle.ef_meaning.specs.Rows.{CoreKeeps, Rows};
+ghost use Rattle.ef_meaning.specs.Laws.{BoundsExtend, EventsGrow, ModulesKeep, SourceMeant, ValuesCompare, ValuesOrdered};
+ghost use Rattle.ef_meaning.specs.Rows.{CoreKeeps, MatchRows, Rows};
 
 /// The laws of both meanings, and of what it is to keep one.
 pub fn laws()
     ensures values { ValuesCompare }
+    ensures order { ValuesOrdered }
     ensures events { EventsGrow }
     ensures bounds { BoundsExtend }
     ensures meant { SourceMeant }
@@ -14,5 +15,6 @@ pub fn laws()
 /// What small modules show, in the source and in Core.
 pub fn rows()
     ensures shown { Rows }
+    ensures matched { MatchRows }
     ensures kept { CoreKeeps }
 {}

@@ -1,9 +1,12 @@
-use Rattle.ef_meaning.proofs.RowsHold.{rows_hold}
+use Rattle.ef_meaning.proofs.RowsHold.{match_rows_hold, rows_hold}
 use Rattle.ef_meaning.proofs.ExamplesKeep.{core_keeps}
 use Rattle.ef_meaning.proofs.promises.rows.Goals as goal
 
 pub returns-clause-shown : goal.returns-clause-shown
 returns-clause-shown c = rows_hold
+
+pub returns-clause-matched : goal.returns-clause-matched
+returns-clause-matched c = match_rows_hold
 
 pub returns-clause-kept : goal.returns-clause-kept
 returns-clause-kept c = core_keeps

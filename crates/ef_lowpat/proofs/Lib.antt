@@ -1,0 +1,12 @@
+pub mod Verdicts
+pub mod Matching
+pub mod Leaves
+pub mod Items
+pub mod Found
+pub mod Lowered
+pub mod Group
+pub mod Sources
+pub mod Literals
+pub mod Sides
+pub mod Tested
+pub mod GuardForms

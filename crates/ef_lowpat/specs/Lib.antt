@@ -1,0 +1,4 @@
+pub mod Nodes
+pub mod Matching
+pub mod Lowers
+pub mod Guards

@@ -1,0 +1,13 @@
+//! Lowers patterns to Core patterns and tests, and tests to guards.
+#![tactic(auto)]
+
+mod draws;
+mod guards;
+mod nodes;
+mod patterns;
+#[cfg(test)]
+mod tests;
+
+pub use draws::draw;
+pub use guards::{guard, word};
+pub use patterns::pattern;

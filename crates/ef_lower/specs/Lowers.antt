@@ -1,66 +1,36 @@
--- What a tree is lowered to.
-use Rattle.std.specs.Prelude.{ℕ, ◌+◌, ◌*◌, ◌<◌, ◌≤◌, ◌≡◌, ◌⊎◌, List, [], ◌∷◌, ◌++◌}
+-- What trees are lowered to: steps, and values behind them.
+use Rattle.std.specs.Prelude.{ℕ, ◌+◌, ◌*◌, ◌<◌, ◌≤◌, ◌≡◌, ◌||◌, ◌⊎◌, List, [], ◌∷◌, ◌++◌, length}
 use Rattle.ef_base.specs.Texts.{Texts}
 use Rattle.ef_core.specs.declared.env.Bind.{Bind}
 use Rattle.ef_core.specs.declared.literal.CoreVar.{CoreVar}
 use Rattle.ef_core.specs.declared.literal.CoreVar.TheVariants.{Numbered}
-use Rattle.ef_core.specs.Conditions.{NoneTwice, conditions}
+use Rattle.ef_core.specs.Conditions.{NoneTwice}
 use Rattle.ef_core.specs.Depth.{depth}
-use Rattle.ef_core.specs.Everywhere.{Each, Holds, Rule, both}
+use Rattle.ef_core.specs.Everywhere.{Each}
 use Rattle.ef_core.specs.Fresh.{most_variables}
-use Rattle.ef_core.specs.LetForm.{IsSimple, let_form}
+pub use Rattle.ef_core.specs.Fresh.{DrawsAtMost as Draws}
+use Rattle.ef_core.specs.LetForm.{IsSimple}
+pub use Rattle.ef_core.specs.Lowered.{IsLowered, lowered}
 use Rattle.ef_core.specs.Normal.{IsNoRun}
 use Rattle.ef_core.specs.Plain.{StepTree, steps}
-use Rattle.ef_core.specs.Readable.{readable}
 use Rattle.ef_core.specs.Tree.{CoreTree, var, lets}
 use Rattle.ef_forms.specs.declared.tables.FunctionName.{FunctionName}
+use Rattle.ef_forms.specs.Depth.{all_depth}
+use Rattle.ef_forms.specs.Plain.{trees}
+use Rattle.ef_forms.specs.Tree.{Tree}
+use Rattle.ef_forms.specs.Ways.{NameSet, all_names}
+use Rattle.ef_forms.specs.Weight.{all_weight}
+use Rattle.ef_meaning.specs.Lowers.{KeepsExpr, KeepsAll}
+use Rattle.ef_lower.specs.Ready.{IsReadableBind, bound_names}
 use Rattle.ef_lower.specs.Scope.{AreInScope}
 
--- in let form, and such that a text can say it and meets the conditions
-abbrev pub lowered : Texts → Rule
-lowered texts = both let_form (both (readable texts) (conditions texts))
+-- ---- steps that are put behind others
 
-abbrev pub IsLowered : Texts → CoreTree → Type 0
-IsLowered texts = Holds (lowered texts)
-
--- at most 16 deep for each level of the source, the node round it included
-abbrev pub IsShallow : ℕ → CoreTree → Type 0
-IsShallow levels e = depth e + 1 ≤ 16 * levels
-
-pub record IsLoweredStep (texts : Texts) (levels : ℕ) (s : StepTree) : Type 0 where
-  pub variables : Each (lowered texts).variable s.vars
-  pub differ : NoneTwice s.vars
-  pub value : IsLowered texts s.value
-  pub shallow : IsShallow levels s.value
-
--- a variable or a literal
-pub record IsArgument (texts : Texts) (levels : ℕ) (e : CoreTree) : Type 0 where
-  pub simple : IsSimple e
-  pub lowered : IsLowered texts e
-  pub shallow : IsShallow levels e
-
-module _ (texts : Texts) (defined : List FunctionName) (env : List Bind) where
-  -- steps are put behind the others, for so many variables at most, and then the value is that of a tree
-  pub record Lowers (units levels n : ℕ) (old : List StepTree) (m : ℕ) (new : List StepTree) (value : CoreTree) : Type 0 where
-    pub added : List StepTree
-    pub steps : new ≡ old ++ added
-    pub drawn : n ≤ m
-    pub enough : m + 1 ≤ n + units
-    pub lowered_steps : Each (IsLoweredStep texts levels) added
-    pub lowered : IsLowered texts value
-    pub no_run : IsNoRun value
-    pub shallow : IsShallow levels value
-    pub in_scope : AreInScope texts defined env added (value ∷ [])
-
-  -- the same for a list, whose values are variables and literals
-  pub record LowersAll (units levels n : ℕ) (old : List StepTree) (m : ℕ) (new : List StepTree) (values : List CoreTree) : Type 0 where
-    pub added : List StepTree
-    pub steps : new ≡ old ++ added
-    pub drawn : n ≤ m
-    pub enough : m ≤ n + units
-    pub lowered_steps : Each (IsLoweredStep texts levels) added
-    pub arguments : Each (IsArgument texts levels) values
-    pub in_scope : AreInScope texts defined env added values
+-- what holds of those that were added
+pub record Adds (old new : List StepTree) (P : List StepTree → Type 0) : Type 0 where
+  pub added : List StepTree
+  pub steps : new ≡ old ++ added
+  pub is : P added
 
 -- the value is put behind the steps, for the next variable
 pub record Puts (value : CoreTree) (n : ℕ) (old : List StepTree) (m : ℕ) (new : List StepTree) (v : CoreVar) : Type 0 where
@@ -79,6 +49,75 @@ abbrev pub Finishes : List StepTree → CoreTree → CoreTree → Type 0
 Finishes [] value e = e ≡ value
 Finishes (s ∷ ss) value e = e ≡ lets (steps (s ∷ ss)) value
 
--- so many variables were drawn at most
-abbrev pub Draws : ℕ → ℕ → ℕ → Type 0
-Draws units n m = (n ≤ m) × (m ≤ n + units)
+-- ---- their forms
+
+-- at most 16 deep for each level of the source, two nodes round it included
+abbrev pub IsShallow : ℕ → CoreTree → Type 0
+IsShallow levels e = depth e + 2 ≤ 16 * levels
+
+pub record IsLoweredStep (texts : Texts) (levels : ℕ) (s : StepTree) : Type 0 where
+  pub variables : Each (lowered texts).variable s.vars
+  pub differ : NoneTwice s.vars
+  pub value : IsLowered texts s.value
+  pub shallow : IsShallow levels s.value
+
+-- a variable or a literal, no deeper than what it is the value of
+pub record IsArgument (texts : Texts) (levels : ℕ) (e : CoreTree) : Type 0 where
+  pub simple : IsSimple e
+  pub lowered : IsLowered texts e
+  pub shallow : depth e ≤ levels
+
+-- an environment, and these names too
+pub record Binds (texts : Texts) (env0 : List Bind) (set : NameSet) (env1 : List Bind) : Type 0 where
+  pub more : List Bind
+  pub grown : env1 ≡ env0 ++ more
+  pub named : (y : ℕ) → bound_names env1 y ≡ (bound_names env0 y || set y)
+  pub readable : Each (IsReadableBind texts) env1
+
+module _ (texts : Texts) (defined : List FunctionName) (es : List Tree) (n0 : ℕ) (env0 : List Bind) (added : List StepTree) (n1 : ℕ) (env1 : List Bind) where
+  -- the steps of trees, and arguments behind them
+  pub record ArgumentForms (values : List CoreTree) : Type 0 where
+    pub names : Binds texts env0 (all_names (trees es)) env1
+    pub number : length values ≡ length es
+    pub drawn : n0 ≤ n1
+    pub enough : n1 ≤ n0 + 500 * all_weight (trees es)
+    pub steps : Each (IsLoweredStep texts (all_depth (trees es))) added
+    pub arguments : Each (IsArgument texts (all_depth (trees es))) values
+    pub in_scope : AreInScope texts defined env0 added env1 values
+
+  -- the steps of trees, and one value behind them; there is a variable left that may hold it
+  pub record ValueForm (value : CoreTree) : Type 0 where
+    pub names : Binds texts env0 (all_names (trees es)) env1
+    pub drawn : n0 ≤ n1
+    pub enough : n1 + 1 ≤ n0 + 500 * all_weight (trees es)
+    pub steps : Each (IsLoweredStep texts (all_depth (trees es))) added
+    pub lowered : IsLowered texts value
+    pub no_run : IsNoRun value
+    pub shallow : IsShallow (all_depth (trees es)) value
+    pub argument : IsSimple value → depth value ≤ all_depth (trees es)
+    pub in_scope : AreInScope texts defined env0 added env1 (value ∷ [])
+
+-- ---- forms and meaning
+
+module _ (texts : Texts) (defined : List FunctionName) where
+  -- a tree is lowered to steps and a value
+  pub record Lowers (e : Tree) (n0 : ℕ) (env0 : List Bind) (added : List StepTree) (n1 : ℕ) (env1 : List Bind) (value : CoreTree) : Type 0 where
+    pub form : ValueForm texts defined (e ∷ []) n0 env0 added n1 env1 value
+    pub keeps : KeepsExpr texts e n0 env0 added n1 env1 value
+
+  -- trees, one after another, to steps and arguments
+  pub record LowersAll (es : List Tree) (n0 : ℕ) (env0 : List Bind) (added : List StepTree) (n1 : ℕ) (env1 : List Bind) (values : List CoreTree) : Type 0 where
+    pub forms : ArgumentForms texts defined es n0 env0 added n1 env1 values
+    pub keeps : KeepsAll texts es n0 env0 added n1 env1 values
+
+  -- a body, with its last expression behind the others
+  pub record LowersBody (es : List Tree) (n0 : ℕ) (env0 : List Bind) (old new : List StepTree) (n2 : ℕ) (env2 : List Bind) (value : CoreTree) : Type 0 where
+    pub front : List Tree
+    pub last : Tree
+    pub whole : front ++ last ∷ [] ≡ es
+    pub n1 : ℕ
+    pub env1 : List Bind
+    pub between : List StepTree
+    pub values : List CoreTree
+    pub first_lowered : Adds old between (λ added. LowersAll front n0 env0 added n1 env1 values)
+    pub last_lowered : Adds between new (λ added. Lowers last n1 env1 added n2 env2 value)

@@ -26,8 +26,8 @@ module _ (texts : Texts) (defined : List FunctionName) (env : List Bind) where
   abbrev pub IsInScope : CoreTree → Type 0
   IsInScope e = (vs : List CoreVar) (fs : List FName) → HasVariables env vs → HasFunctions texts defined fs → InScope vs fs e
 
-  -- steps, and values behind them
-  abbrev pub AreInScope : List StepTree → List CoreTree → Type 0
-  AreInScope ss values =
+  -- steps; and behind them values, and the variables of the environment afterwards
+  abbrev pub AreInScope : List StepTree → List Bind → List CoreTree → Type 0
+  AreInScope ss after values =
       (vs : List CoreVar) (fs : List FName) → HasVariables env vs → HasFunctions texts defined fs
-      → StepsInScope vs fs (steps ss) × AllInScope (steps_vars (steps ss) ++ vs) fs (trees values)
+      → StepsInScope vs fs (steps ss) × HasVariables after (steps_vars (steps ss) ++ vs) × AllInScope (steps_vars (steps ss) ++ vs) fs (trees values)

@@ -2,9 +2,14 @@
 #![tactic(auto)]
 
 mod append;
+mod exports;
 mod lower;
+mod matches;
+mod nodes;
 mod steps;
 #[cfg(test)]
 mod tests;
+mod values;
 
-pub use lower::{LoweredExpr, body, expression};
+pub use lower::{LoweredExpr, body, closed_body, expression};
+pub use values::together;

@@ -1,5 +1,5 @@
 // The calls of this crate.
-ghost use Rattle.std.specs.Prelude.{◌≡◌, ◌+◌, ◌*◌, ◌≤◌, [], ◌∷◌, IfOk, length, map};
+ghost use Rattle.std.specs.Prelude.{◌≡◌, ◌+◌, ◌*◌, ◌≤◌, [], ◌∷◌, IfOk, List, length, map};
 ghost use Rattle.ef_base.specs.Texts.{AllDiffer, AllUtf8, Extends};
 ghost use Rattle.ef_core.specs.Depth as deep;
 ghost use Rattle.ef_core.specs.Everywhere.{Each};
@@ -9,26 +9,24 @@ ghost use Rattle.ef_forms.specs.Built.{AreBuilt, AreNarrow, IsBuiltTree, IsNarro
 ghost use Rattle.ef_forms.specs.Depth.{all_depth, depth};
 ghost use Rattle.ef_forms.specs.OfTable.{TreeOf, TreesOf};
 ghost use Rattle.ef_forms.specs.Plain.{plain, plain_all};
+ghost use Rattle.ef_forms.specs.Ways as ways;
 ghost use Rattle.ef_forms.specs.Ways.{body_faults, faults};
 ghost use Rattle.ef_forms.specs.Weight.{all_weight, weight};
-ghost use Rattle.ef_lower.specs.Lowers.{Draws, IsLowered, Lowers};
-ghost use Rattle.ef_lower.specs.Ready.{AreReady, IsReadableBind, bound_names};
+ghost use Rattle.ef_lowpat.specs.Guards.{HoldsWords};
+ghost use Rattle.ef_lower.specs.Exports.{IsExported};
+ghost use Rattle.ef_lower.specs.Lowers.{Draws, IsLowered, LowersBody};
+ghost use Rattle.ef_lower.specs.Ready.{IsReadableBind, bound_names, lower_words};
 ghost use Rattle.ef_lower.specs.Scope.{IsInScope};
-ghost use Rattle.ef_meaning.specs.Lowers.{AppendsLast, AreBelow, KeepsBody};
+ghost use Rattle.ef_meaning.specs.Lowers.{AreBelow, KeepsBody};
 
 use crate::append::append;
+pub use crate::exports::LoweredExpr;
+use crate::exports::with_names;
 use crate::steps::{finish, hold};
-use ef_base::{Name, Names, NoMemory};
+use ef_base::{Names, NoMemory};
 use ef_core::{CoreExpr, Env, Fresh, LetStep};
 use ef_forms::{Expr, Tables};
 use std::alloc::Global;
-
-/// A Core expression, whose values are the value of a source expression and then those of the names that it exports.
-#[derive(Drop)]
-pub struct LoweredExpr {
-    pub core: CoreExpr,
-    pub exports: Vec<Name>,
-}
 
 /// Lowers an expression.
 pub fn expression(
@@ -39,6 +37,7 @@ pub fn expression(
     expr: &Expr,
     env: &Env,
 ) -> Result<LoweredExpr, NoMemory>
+    requires words { HoldsWords names.old lower_words }
     requires built { IsBuiltTree names.old tables.now.functions.items (plain expr.now) }
     requires narrow { IsNarrow (plain expr.now) }
     requires of_table { TreeOf names.old (plain expr.now) }
@@ -51,17 +50,15 @@ pub fn expression(
     ensures utf8 { AllUtf8 names.old → AllUtf8 names.new }
     ensures lowered { IfOk result (λ r. IsLowered names.new (core.plain r.core)) }
     ensures in_scope { IfOk result (λ r. IsInScope names.old tables.now.functions.items env.now (core.plain r.core)) }
-    ensures shallow { IfOk result (λ r. deep.depth (core.plain r.core) ≤ 16 * depth (plain expr.now)) }
-    ensures exports { IfOk result (λ r. r.exports.items ≡ []) }
+    ensures shallow { IfOk result (λ r. deep.depth (core.plain r.core) + 1 ≤ 16 * depth (plain expr.now)) }
+    ensures exports { IfOk result (λ r. IsExported env.now (ways.names (plain expr.now)) r.exports.items) }
     ensures drawn { IfOk result (λ r. Draws (500 * weight (plain expr.now)) fresh.old fresh.new) }
     ensures means { IfOk result (λ r. KeepsBody names.new (plain expr.now ∷ []) env.now r.exports.items (core.plain r.core)) }
 {
+    let mut own = env.copy(alloc)?;
     let mut steps = Vec::new(alloc);
-    let value = append(alloc, names, tables, expr, env, fresh, &mut steps)?;
-    Ok(LoweredExpr {
-        core: finish(alloc, steps, value)?,
-        exports: Vec::new(alloc),
-    })
+    let value = append(alloc, names, tables, expr, &mut own, fresh, &mut steps)?;
+    Ok(with_names(alloc, &own, env.len(), fresh, steps, value)?)
 }
 
 /// Lowers a body, whose expressions are evaluated in order. It isn't empty.
@@ -73,6 +70,7 @@ pub fn body(
     exprs: &[Expr],
     env: &Env,
 ) -> Result<LoweredExpr, NoMemory>
+    requires words { HoldsWords names.old lower_words }
     requires some { 1 ≤ length exprs.now }
     requires built { AreBuilt names.old tables.now.functions.items (plain_all exprs.now) }
     requires narrow { AreNarrow (plain_all exprs.now) }
@@ -86,17 +84,47 @@ pub fn body(
     ensures utf8 { AllUtf8 names.old → AllUtf8 names.new }
     ensures lowered { IfOk result (λ r. IsLowered names.new (core.plain r.core)) }
     ensures in_scope { IfOk result (λ r. IsInScope names.old tables.now.functions.items env.now (core.plain r.core)) }
-    ensures shallow { IfOk result (λ r. deep.depth (core.plain r.core) ≤ 16 * all_depth (plain_all exprs.now)) }
-    ensures exports { IfOk result (λ r. r.exports.items ≡ []) }
+    ensures shallow { IfOk result (λ r. deep.depth (core.plain r.core) + 1 ≤ 16 * all_depth (plain_all exprs.now)) }
+    ensures exports { IfOk result (λ r. IsExported env.now (ways.all_names (plain_all exprs.now)) r.exports.items) }
     ensures drawn { IfOk result (λ r. Draws (500 * all_weight (plain_all exprs.now)) fresh.old fresh.new) }
     ensures means { IfOk result (λ r. KeepsBody names.new (map plain exprs.now) env.now r.exports.items (core.plain r.core)) }
 {
+    let mut own = env.copy(alloc)?;
     let mut steps = Vec::new(alloc);
-    let value = append_body(alloc, names, tables, exprs, env, fresh, &mut steps)?;
-    Ok(LoweredExpr {
-        core: finish(alloc, steps, value)?,
-        exports: Vec::new(alloc),
-    })
+    let value = append_body(alloc, names, tables, exprs, &mut own, fresh, &mut steps)?;
+    Ok(with_names(alloc, &own, env.len(), fresh, steps, value)?)
+}
+
+/// Lowers a body whose names nobody needs afterwards: its value alone.
+pub fn closed_body(
+    alloc: Global,
+    names: &mut Names,
+    tables: &Tables,
+    fresh: &mut Fresh,
+    exprs: &[Expr],
+    mut env: Env,
+) -> Result<CoreExpr, NoMemory>
+    requires words { HoldsWords names.old lower_words }
+    requires some { 1 ≤ length exprs.now }
+    requires built { AreBuilt names.old tables.now.functions.items (plain_all exprs.now) }
+    requires narrow { AreNarrow (plain_all exprs.now) }
+    requires of_table { TreesOf names.old (plain_all exprs.now) }
+    requires readable { Each (IsReadableBind names.old) env }
+    requires no_faults { body_faults names.old (plain_all exprs.now) (bound_names env ∷ []) ≡ [] }
+    requires below { AreBelow fresh.old env }
+    requires enough { fresh.old + 500 * all_weight (plain_all exprs.now) ≤ most_variables }
+    ensures kept { Extends names.old names.new }
+    ensures differ { AllDiffer names.old → AllDiffer names.new }
+    ensures utf8 { AllUtf8 names.old → AllUtf8 names.new }
+    ensures lowered { IfOk result (λ e. IsLowered names.new (core.plain e)) }
+    ensures in_scope { IfOk result (λ e. IsInScope names.old tables.now.functions.items env (core.plain e)) }
+    ensures shallow { IfOk result (λ e. deep.depth (core.plain e) + 1 ≤ 16 * all_depth (plain_all exprs.now)) }
+    ensures drawn { IfOk result (λ e. Draws (500 * all_weight (plain_all exprs.now)) fresh.old fresh.new) }
+    ensures means { IfOk result (λ e. KeepsBody names.new (map plain exprs.now) env [] (core.plain e)) }
+{
+    let mut steps = Vec::new(alloc);
+    let value = append_body(alloc, names, tables, exprs, &mut env, fresh, &mut steps)?;
+    Ok(finish(alloc, steps, value)?)
 }
 
 // The expressions before the last go behind the steps, with what is evaluated before the last.
@@ -105,17 +133,20 @@ fn append_body(
     names: &Names,
     tables: &Tables,
     exprs: &[Expr],
-    env: &Env,
+    env: &mut Env,
     fresh: &mut Fresh,
     steps: &mut Vec<LetStep>,
 ) -> Result<CoreExpr, NoMemory>
+    requires words { HoldsWords names.now lower_words }
     requires some { 1 ≤ length exprs.now }
-    requires ready { AreReady names.now tables.now.functions.items env.now (plain_all exprs.now) }
-    requires readable { Each (IsReadableBind names.now) env.now }
-    requires below { AreBelow fresh.old env.now }
-    requires enough { fresh.old + all_weight (plain_all exprs.now) ≤ most_variables }
-    ensures lowered { IfOk result (λ v. Lowers names.now tables.now.functions.items env.now (all_weight (plain_all exprs.now)) (all_depth (plain_all exprs.now)) fresh.old (map core.plain_step steps.old.items) fresh.new (map core.plain_step steps.new.items) (core.plain v)) }
-    ensures means { IfOk result (λ v. AppendsLast names.now (map plain exprs.now) fresh.old env.now (map core.plain_step steps.old.items) fresh.new env.now (map core.plain_step steps.new.items) (core.plain v)) }
+    requires built { AreBuilt names.now tables.now.functions.items (plain_all exprs.now) }
+    requires narrow { AreNarrow (plain_all exprs.now) }
+    requires of_table { TreesOf names.now (plain_all exprs.now) }
+    requires readable { Each (IsReadableBind names.now) env.old }
+    requires no_faults { body_faults names.now (plain_all exprs.now) (bound_names env.old ∷ []) ≡ [] }
+    requires below { AreBelow fresh.old env.old }
+    requires enough { fresh.old + 500 * all_weight (plain_all exprs.now) ≤ most_variables }
+    ensures { IfOk result (λ v. LowersBody names.now tables.now.functions.items (map plain exprs.now) fresh.old env.old (map core.plain_step steps.old.items) (map core.plain_step steps.new.items) fresh.new env.new (core.plain v)) }
 {
     let last = exprs.len() - 1;
     for expr in &exprs[..last] {

@@ -1,17 +1,15 @@
-use Rattle.std.proofs.Common.{List, [], take, map}
+use Rattle.std.proofs.Common.{List, take, map}
 use Rattle.ef_core.specs.Plain as core
 use Rattle.ef_core.specs.Tree.{CoreTree}
-use Rattle.ef_forms.specs.Depth.{all_depth}
-use Rattle.ef_forms.specs.Plain.{plain, plain_all}
-use Rattle.ef_forms.specs.Weight.{all_weight}
-use Rattle.ef_lower.specs.Lowers.{LowersAll}
-use Rattle.ef_meaning.specs.Lowers.{AppendsAll}
+use Rattle.ef_forms.specs.Plain.{plain}
+use Rattle.ef_lower.specs.Lowers.{Adds, LowersAll}
+use Rattle.ef_lower.specs.Ready.{bound_names}
+use Rattle.ef_lower.proofs.Source.{IsLeft}
 use Rattle.ef_lower.proofs.lower.append_body.Given as goal
 
 abbrev pub invariant-loop-expr : goal.invariant-loop-expr
 invariant-loop-expr l = record {
-  lowered : LowersAll l.names l.tables.functions.items l.env (all_weight (plain_all (take l.expr-index l.exprs))) (all_depth (plain_all l.exprs))
-      l.fn.fresh (map core.plain_step l.fn.steps.items) l.fresh (map core.plain_step l.steps.items) [];
-  means : (values : List CoreTree) × AppendsAll l.names (map plain (take l.expr-index l.exprs)) l.fn.fresh l.env (map core.plain_step l.fn.steps.items)
-      l.fresh l.env (map core.plain_step l.steps.items) values;
+  left : IsLeft l.names l.tables.functions.items l.exprs l.expr-index (bound_names l.env);
+  lowered : (values : List CoreTree) × Adds (map core.plain_step l.fn.steps.items) (map core.plain_step l.steps.items) (λ added.
+      LowersAll l.names l.tables.functions.items (map plain (take l.expr-index l.exprs)) l.fn.fresh l.fn.env added l.fresh l.env values);
 }

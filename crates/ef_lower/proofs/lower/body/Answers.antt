@@ -1,31 +1,26 @@
-use Rattle.std.proofs.Common.{ap, map}
+use Rattle.std.proofs.Common.{◌≡◌, ◌<◌, ◌≤◌, ◌+◌, ◌*◌, ap, map, arith, rules}
 use Rattle.ef_core.specs.Plain as core
-use Rattle.ef_forms.specs.Plain.{plain_all}
-use Rattle.ef_lower.specs.Ready.{bound_names}
-use Rattle.ef_lower.proofs.Covers.{body_covered}
-use Rattle.ef_lower.proofs.Means.{finish_keeps}
-use Rattle.ef_lower.proofs.Parts.{finish_in_scope, finish_lowered, finish_shallow}
+use Rattle.ef_lower.proofs.Bodies.{body_enough, body_from, named_body, named_drawn, named_exported}
 use Rattle.ef_lower.proofs.lower.body.Goals as goal
 
-pub append_body-requires-clause-ready : goal.append_body-requires-clause-ready
-append_body-requires-clause-ready c = record {
-  built = c.requires.built;
-  narrow = c.requires.narrow;
-  of_table = c.requires.of_table;
-  covered = body_covered c.args.names.now (plain_all c.args.exprs.now) (bound_names c.args.env.now) c.requires.no_faults;
-}
+pub with_names-requires : goal.with_names-requires
+with_names-requires c =
+    let drawn = body_enough _ _ (ap (map core.plain_step) c.new-steps.ensures.items) c.in_ok-value.ensures in let all = c.requires.enough in omega arith
 
-pub returns-clause-lowered : goal.returns-clause-lowered
-returns-clause-lowered c =
-    finish_lowered _ _ _ _ _ _ _ _ _ _ _ c.in_ok-value.ensures.lowered (ap (map core.plain_step) c.new-steps.ensures.items) c.in_ok-finish.ensures
-
-pub returns-clause-in_scope : goal.returns-clause-in_scope
-returns-clause-in_scope c =
-    finish_in_scope _ _ _ _ _ _ _ _ _ _ _ c.in_ok-value.ensures.lowered (ap (map core.plain_step) c.new-steps.ensures.items) c.in_ok-finish.ensures
-
-pub returns-clause-shallow : goal.returns-clause-shallow
-returns-clause-shallow c =
-    finish_shallow _ _ _ _ _ _ _ _ _ _ _ c.in_ok-value.ensures.lowered (ap (map core.plain_step) c.new-steps.ensures.items) c.in_ok-finish.ensures
-
-pub returns-clause-means : goal.returns-clause-means
-returns-clause-means c = finish_keeps _ _ _ _ _ _ _ _ _ _ c.in_ok-value.ensures.means (ap (map core.plain_step) c.new-steps.ensures.items) c.new.ensures.items c.in_ok-finish.ensures
+pub returns : goal.returns
+returns c =
+    let none = ap (map core.plain_step) c.new-steps.ensures.items in
+    let lowers = body_from _ _ c.in_ok-own.ensures c.in_ok-value.ensures in
+    let gives = c.in_ok-with_names.ensures in
+    let body = named_body _ _ none lowers _ c.len.ensures gives.differ gives.gives in
+    record {
+      kept = search rules;
+      differ = search rules;
+      utf8 = search rules;
+      lowered = body.lowered;
+      in_scope = body.in_scope;
+      shallow = body.shallow;
+      exports = named_exported _ _ none lowers _ c.len.ensures gives.differ gives.gives;
+      drawn = named_drawn _ _ none lowers _ c.len.ensures gives.differ gives.gives;
+      means = body.means;
+    }

@@ -1,31 +1,26 @@
-use Rattle.std.proofs.Common.{ap, map}
+use Rattle.std.proofs.Common.{◌≡◌, ◌<◌, ◌≤◌, ◌+◌, ◌*◌, ap, map, arith, rules}
 use Rattle.ef_core.specs.Plain as core
 use Rattle.ef_forms.specs.Plain.{plain}
-use Rattle.ef_lower.specs.Ready.{bound_names}
-use Rattle.ef_lower.proofs.Covers.{covered}
-use Rattle.ef_lower.proofs.Means.{finish_keeps, one_appends}
-use Rattle.ef_lower.proofs.Parts.{finish_in_scope, finish_lowered, finish_shallow}
+use Rattle.ef_lower.proofs.Bodies.{exported_one, named_body, named_drawn, named_exported, one_body}
 use Rattle.ef_lower.proofs.lower.expression.Goals as goal
 
-pub append-requires-clause-ready : goal.append-requires-clause-ready
-append-requires-clause-ready c = record {
-  built = c.requires.built;
-  narrow = c.requires.narrow;
-  of_table = c.requires.of_table;
-  covered = covered c.args.names.now (plain c.args.expr.now) (bound_names c.args.env.now) c.requires.no_faults;
-}
-
-pub returns-clause-lowered : goal.returns-clause-lowered
-returns-clause-lowered c =
-    finish_lowered _ _ _ _ _ _ _ _ _ _ _ c.in_ok-value.ensures.lowered (ap (map core.plain_step) c.new-steps.ensures.items) c.in_ok-finish.ensures
-
-pub returns-clause-in_scope : goal.returns-clause-in_scope
-returns-clause-in_scope c =
-    finish_in_scope _ _ _ _ _ _ _ _ _ _ _ c.in_ok-value.ensures.lowered (ap (map core.plain_step) c.new-steps.ensures.items) c.in_ok-finish.ensures
-
-pub returns-clause-shallow : goal.returns-clause-shallow
-returns-clause-shallow c =
-    finish_shallow _ _ _ _ _ _ _ _ _ _ _ c.in_ok-value.ensures.lowered (ap (map core.plain_step) c.new-steps.ensures.items) c.in_ok-finish.ensures
-
-pub returns-clause-means : goal.returns-clause-means
-returns-clause-means c = finish_keeps _ _ _ _ _ _ _ _ _ _ (one_appends _ _ _ _ _ _ _ _ c.requires.below c.in_ok-value.ensures.means) (ap (map core.plain_step) c.new-steps.ensures.items) c.new.ensures.items c.in_ok-finish.ensures
+pub returns : goal.returns
+returns c =
+    let none = ap (map core.plain_step) c.new-steps.ensures.items in
+    let lowers = one_body _ _ c.in_ok-own.ensures c.requires.below c.requires.readable c.in_ok-value.ensures in
+    let gives = c.in_ok-with_names.ensures in
+    let body = named_body _ _ none lowers _ c.len.ensures gives.differ gives.gives in
+    let drawn = named_drawn _ _ none lowers _ c.len.ensures gives.differ gives.gives in
+    let most = drawn.1 in
+    let deep = body.shallow in
+    record {
+      kept = search rules;
+      differ = search rules;
+      utf8 = search rules;
+      lowered = body.lowered;
+      in_scope = body.in_scope;
+      shallow = omega arith;
+      exports = exported_one (plain c.args.expr.now) (named_exported _ _ none lowers _ c.len.ensures gives.differ gives.gives);
+      drawn = (drawn.0, omega arith);
+      means = body.means;
+    }

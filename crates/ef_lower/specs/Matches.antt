@@ -1,0 +1,133 @@
+-- What a match is lowered to.
+use Rattle.std.specs.Prelude.{ℕ, ◌≡◌, ◌≤◌, ◌+◌, ◌*◌, ◌||◌, ◌⊎◌, List, [], ◌∷◌, ◌++◌, None, codes, length}
+use Rattle.ef_base.specs.declared.name.Name.{Name}
+use Rattle.ef_base.specs.declared.fault.Place.{Place}
+use Rattle.ef_base.specs.Texts.{Texts, IsNameOf}
+use Rattle.ef_core.specs.declared.env.Bind.{Bind}
+use Rattle.ef_core.specs.declared.literal.CoreVar.{CoreVar}
+use Rattle.ef_core.specs.declared.literal.CoreVar.TheVariants.{Numbered}
+use Rattle.ef_core.specs.declared.literal.FName.{FName}
+use Rattle.ef_core.specs.declared.lowered.Test.{Test}
+use Rattle.ef_core.specs.Conditions.{NoneTwice}
+use Rattle.ef_core.specs.Depth.{depth, pats_depth}
+use Rattle.ef_core.specs.Env.{NamesDiffer, bind, held}
+use Rattle.ef_core.specs.Everywhere.{Each, PatsHold}
+use Rattle.ef_core.specs.Fresh.{DrawsAtMost, most_variables}
+use Rattle.ef_core.specs.Lowered.{IsLowered, IsReadableBind, lowered}
+use Rattle.ef_core.specs.Plain.{ClauseTree, StepTree, clauses, steps, trees}
+use Rattle.ef_core.specs.Scope.{IsAmong, InScope, SizesInScope, pats_vars}
+use Rattle.ef_core.specs.Tree as c
+use Rattle.ef_core.specs.Tree.{CoreTree, PatTrees}
+use Rattle.ef_forms.specs.Depth.{depth as source_depth}
+use Rattle.ef_forms.specs.Tree.{Tree, tree, any, var, end, more}
+use Rattle.ef_forms.specs.Ways.{names}
+use Rattle.ef_forms.specs.Weight.{weight}
+use Rattle.ef_meaning.specs.Cases.{last_clause, names_of, together}
+use Rattle.ef_meaning.specs.Lowers.{env_from, params_from}
+use Rattle.ef_meaning.specs.Named.{bound_names}
+use Rattle.ef_meaning.specs.Patterns.{IsGuard, KeepsPatterns}
+use Rattle.ef_lowpat.specs.Guards.{HasTested}
+use Rattle.ef_lowpat.specs.Lowers.{IsVariableOf}
+use Rattle.ef_lower.specs.Exports.{held_variables}
+use Rattle.ef_lower.specs.Lowers.{StandsFor}
+
+-- ---- the parts of its step
+
+-- a guard that says what the tests say
+pub record IsGuardOf (texts : Texts) (tests : List Test) (e : CoreTree) : Type 0 where
+  pub gives : IsGuard texts tests e
+  pub lowered : IsLowered texts e
+  pub in_scope : (vs : List CoreVar) (fs : List FName) → HasTested tests vs → InScope vs fs e
+  pub shallow : depth e ≤ 3
+
+-- Core patterns, tests and names of one pattern
+pub record IsPatternOf (texts : Texts) (p : Tree) (n : ℕ) (bound : List Bind) (made : PatTrees) (tests : List Test) (m : ℕ) (binds : List Bind) : Type 0 where
+  pub matched : KeepsPatterns texts (more p end) n bound made tests m binds
+  pub distinct : NoneTwice (pats_vars made)
+  pub binds_in_pattern : Each (λ b. IsAmong (pats_vars made) b.var) binds
+  pub lefts_in_pattern : Each (λ t. IsAmong (pats_vars made) t.left) tests
+  pub rights_known : Each (λ t. IsAmong (pats_vars made) t.right ⊎ IsVariableOf bound t.right) tests
+  pub names_differ : NamesDiffer binds
+  pub names_new : Each (λ b. held bound b.name ≡ None) binds
+  pub names_all : (y : ℕ) → bound_names (bound ++ binds) y ≡ (bound_names bound y || names p y)
+  pub lowered : PatsHold (lowered texts) made
+  pub readable_binds : Each (IsReadableBind texts) binds
+  pub sizes : (vs : List CoreVar) (fs : List FName) → SizesInScope vs fs made
+  pub shallow : pats_depth made ≤ source_depth p
+  pub drawn : DrawsAtMost (50 * weight p) n m
+
+-- an error with the reason `{badmatch, Value}`, which a step puts into a variable
+pub record FailsWith (texts : Texts) (z y : CoreVar) (e : CoreTree) : Type 0 where
+  pub match_fail : Name
+  pub badmatch : Name
+  pub match_fail_text : IsNameOf texts match_fail (codes "match_fail")
+  pub badmatch_text : IsNameOf texts badmatch (codes "badmatch")
+  pub is : e ≡ c.lets (steps (record { vars = y ∷ []; value = c.tuple (trees (c.lit (c.atom badmatch) ∷ c.var z ∷ [])) } ∷ [])) (c.primop match_fail (trees (c.var y ∷ [])))
+
+-- the clause for every other value
+pub record IsLastClause (texts : Texts) (n m : ℕ) (last : ClauseTree) : Type 0 where
+  pub always : CoreTree
+  pub fails : CoreTree
+  pub z : ℕ
+  pub drawn : n ≤ z
+  pub enough : m ≤ n + 4
+  pub next : m ≡ z + 2
+  pub is_guard : IsGuardOf texts [] always
+  pub is_error : FailsWith texts (Numbered z) (Numbered (z + 1)) fails
+  pub is : last ≡ last_clause always (Numbered z ∷ []) fails
+
+-- a step that matches a variable; the step's own variables hold what the names are bound to
+pub record IsMatchStep (texts : Texts) (p : Tree) (x : CoreVar) (n : ℕ) (env : List Bind) (m : ℕ) (env1 : List Bind) (s : StepTree) : Type 0 where
+  pub made : PatTrees
+  pub tests : List Test
+  pub binds : List Bind
+  pub guard : CoreTree
+  pub last : ClauseTree
+  -- how many variables are drawn behind the pattern, the guard and the last clause
+  pub matched : ℕ
+  pub guarded : ℕ
+  pub first : ℕ
+  pub is_pattern : IsPatternOf texts p n env made tests matched binds
+  pub is_guard : IsGuardOf texts tests guard
+  pub guard_drawn : DrawsAtMost 2 matched guarded
+  pub is_last : IsLastClause texts guarded first last
+  pub drawn : m ≡ first + length binds
+  pub in_range : m ≤ most_variables
+  pub bound : env1 ≡ env ++ env_from first (names_of binds)
+  pub is : s ≡ record { vars = params_from first (names_of binds); value = c.case_of (c.var x) (clauses (record { pats = made; guard = guard; body = together (held_variables binds) } ∷ last ∷ [])) }
+
+-- ---- the match, behind its value
+
+-- `_` matches every value
+pub record MatchesAny (p : Tree) (value : CoreTree) (n : ℕ) (env : List Bind) (old : List StepTree) (m : ℕ) (env1 : List Bind) (new : List StepTree) (e : CoreTree) : Type 0 where
+  pub place : Place
+  pub is : p ≡ tree place any
+  pub drawn : m ≡ n
+  pub bound : env1 ≡ env
+  pub steps : new ≡ old
+  pub same : e ≡ value
+
+-- a name that is not bound yet: the variable of the value is its variable
+pub record MatchesNew (p : Tree) (value : CoreTree) (n : ℕ) (env : List Bind) (old : List StepTree) (m : ℕ) (env1 : List Bind) (new : List StepTree) (e : CoreTree) : Type 0 where
+  pub place : Place
+  pub name : Name
+  pub y : CoreVar
+  pub is : p ≡ tree place (var name)
+  pub free : held env name ≡ None
+  pub stands : StandsFor value n old m new (c.var y)
+  pub bound : env1 ≡ env ++ bind name y ∷ []
+  pub same : e ≡ c.var y
+
+-- any other pattern: a step matches the variable of the value
+pub record MatchesByCase (texts : Texts) (p : Tree) (value : CoreTree) (n : ℕ) (env : List Bind) (old : List StepTree) (m : ℕ) (env1 : List Bind) (new : List StepTree) (e : CoreTree) : Type 0 where
+  pub x : CoreVar
+  pub mid : ℕ
+  pub before : List StepTree
+  pub step : StepTree
+  pub stands : StandsFor value n old mid before (c.var x)
+  pub is_match : IsMatchStep texts p x mid env m env1 step
+  pub steps : new ≡ before ++ step ∷ []
+  pub same : e ≡ c.var x
+
+abbrev pub Matches : Texts → Tree → CoreTree → ℕ → List Bind → List StepTree → ℕ → List Bind → List StepTree → CoreTree → Type 0
+Matches texts p value n env old m env1 new e = MatchesAny p value n env old m env1 new e ⊎ (MatchesNew p value n env old m env1 new e ⊎ MatchesByCase texts p value n env old m env1 new e)

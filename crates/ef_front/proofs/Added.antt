@@ -1,12 +1,11 @@
 -- Faults that are added form by form.
-use Rattle.std.proofs.Common.{◌≡◌, ◌<◌, ◌≤◌, ◌+◌, ℕ, List, [], ◌∷◌, ◌++◌, length, drop, get_or, suc, add-one, refl, sym, ap, ◌∙◌, subst, append-nil, append_assoc, map}
-use Rattle.std.specs.List.{flat_map}
+use Rattle.std.proofs.Common.{◌≡◌, ◌<◌, ◌≤◌, ◌+◌, ℕ, List, ◌∷◌, ◌++◌, length, drop, get_or, suc, add-one, refl, sym, ap, ◌∙◌, subst, append-nil, append_assoc, map}
 use Rattle.std.proofs.Math.Seq.{drop-cons}
 use Rattle.std.proofs.lemmas.List.{drop_all}
 use Rattle.ef_base.specs.declared.fault.Fault.{Fault}
-use Rattle.ef_base.specs.Faults.{set_of, insert_fault}
+use Rattle.ef_base.specs.Faults.{set_of}
 use Rattle.ef_base.specs.Texts.{Texts, Extends}
-use Rattle.ef_base.proofs.FaultLaws.{set_of-push, set_of-append}
+use Rattle.ef_base.proofs.FaultLaws.{set_of-append}
 use Rattle.ef_forms.specs.declared.form.PlacedForm.{PlacedForm}
 use Rattle.ef_forms.specs.OfTable.{FormOf, FormsOf}
 use Rattle.ef_forms.specs.Plain.{plain_placed, plain_form}

@@ -2,22 +2,25 @@
 use Rattle.std.proofs.Common.{◌≡◌, ◌≢◌, ◌≤◌, ◌⊎◌, ℕ, List, [], ◌∷◌, ◌++◌, Bool, true, false, length, refl, sym, ap, ◌∙◌, subst, arith, inl, inr, Result, Ok, Err, IfOk}
 use Rattle.std.specs.Prelude.{IsTrue, ◌↔◌}
 use Rattle.ef_base.specs.declared.fault.Fault.{Fault}
+use Rattle.ef_base.specs.declared.fault.Place.{Place}
+use Rattle.ef_base.specs.declared.name.Name.{Name}
 use Rattle.ef_base.specs.Faults.{set_of}
 use Rattle.ef_base.specs.Texts.{Texts, AllDiffer, Extends}
 use Rattle.ef_base.specs.Laws.{extends_same}
 use Rattle.ef_token.specs.declared.token.Token.{Token}
 use Rattle.ef_token.specs.declared.token.ScannedForm.{ScannedForm}
 use Rattle.ef_scan.specs.Scan.{Form, Scans, ScansTo, IsScanned, AreOf}
-use Rattle.ef_forms.specs.Tree.{Trees, FunctionTree, FormTree, PlacedTree, ModuleTree, module_name, export, function, count}
+use Rattle.ef_forms.specs.Tree.{Trees, Clauses, FunctionTree, FormTree, PlacedTree, ModuleTree, module_name, export, function, count}
 use Rattle.ef_forms.specs.Weight.{function_weight}
 use Rattle.ef_forms.specs.Built.{Each, IsBuilt, functions_in, functions_of}
-use Rattle.ef_parse.specs.Grammar.{SpellsSome, one, and_more, one_clause}
+use Rattle.ef_parse.specs.Grammar.{SpellsSome, SpellsClause, SpellsClauses, one, and_more, a_clause, one_clause, and_clauses}
 use Rattle.ef_module.specs.Forms.{SpellsForm, SpellsForms, SpellsModule, IsNarrowForm, a_module_name, an_export, a_function}
 use Rattle.ef_module.specs.Read.{ReadsModule}
-use Rattle.ef_lowmod.specs.Function.{IsLight, IsNarrowFunction, IsWhole, HasNoFault}
+use Rattle.ef_lowmod.specs.Function.{AreSome, IsLight, IsNarrowFunction, IsWhole, HasNoFault}
+use Rattle.ef_meaning.specs.Bound.{HaveBodies}
 use Rattle.ef_front.specs.declared.compiling.Compiled.{Compiled}
 use Rattle.ef_front.specs.declared.compiling.Compiled.TheVariants.{Module, Faulty}
-use Rattle.ef_front.specs.Source.{IsNamed, IsSource, HasFaults, blank, faulty_forms, of_module, not_built, faults_in, module_faults, forms_faults, form_faults, at_start}
+use Rattle.ef_front.specs.Source.{IsSource, HasFaults, blank, faulty_forms, of_module, not_built, faults_in, module_faults, forms_faults, form_faults, at_start}
 use Rattle.ef_front.specs.Input.{limit}
 use Rattle.ef_front.specs.Runs.{IsCompiledText}
 use Rattle.ef_front.specs.Compiles.{AreTaken, SpellLight, IsFaulty, IsCompiledModule, IsCompiledForms}
@@ -28,19 +31,30 @@ use Rattle.ef_front.proofs.Taken.{faults_taken, set_none}
 
 -- ---- what a spelled module has
 
-not_none : (es : Trees) (d : ℕ) (ts : List Token) → SpellsSome es d ts → 1 ≤ count es
-not_none es d ts (one e k d' ts' h) = omega arith
-not_none es d ts (and_more e es' k d' g p ts' us h hs) = omega arith
+not_none : (all : Texts) (es : Trees) (d : ℕ) (ts : List Token) → SpellsSome all es d ts → 1 ≤ count es
+not_none all es d ts (one e k d' ts' h) = omega arith
+not_none all es d ts (and_more e es' k d' g p ts' us h hs) = omega arith
+
+has_body : (all : Texts) (n : Name) (p : Place) (ps es : Trees) (d : ℕ) (ts : List Token) → SpellsClause all n p ps es d ts → 1 ≤ count es
+has_body all n p ps es d ts (a_clause n' ps' es' d' g p' q r s xs ys h hs) = not_none all es' g ys hs
+
+have_bodies : (all : Texts) (n : Name) (cs : Clauses) (d : ℕ) (ts : List Token) → SpellsClauses all n cs d ts → HaveBodies cs
+have_bodies all n cs d ts (one_clause n' p ps es d' ts' h) = (has_body all n' p ps es d' ts' h, tt)
+have_bodies all n cs d ts (and_clauses n' p ps es cs' d' g q ts' us h hs) = (has_body all n' p ps es d' ts' h, have_bodies all n' cs' g us hs)
 
 form_narrow : (all : Texts) (f : FormTree) (ts : List Token) → SpellsForm all f ts → IsNarrowForm f → Each IsNarrowFunction (functions_of f)
 form_narrow all f ts (a_module_name m n p q r s t u at) narrow = tt
 form_narrow all f ts (an_export m fs p q r s t u v ts' at h) narrow = tt
 form_narrow all f ts (a_function n cs d p ts' h le) narrow = (narrow, tt)
 
+are_some : (all : Texts) (n : Name) (cs : Clauses) (d : ℕ) (ts : List Token) → SpellsClauses all n cs d ts → AreSome cs
+are_some all n cs d ts (one_clause n' p ps es d' ts' h) = tt
+are_some all n cs d ts (and_clauses n' p ps es cs' d' g q ts' us h hs) = tt
+
 form_whole : (all : Texts) (f : FormTree) (ts : List Token) → SpellsForm all f ts → Each IsWhole (functions_of f)
 form_whole all f ts (a_module_name m n p q r s t u at) = tt
 form_whole all f ts (an_export m fs p q r s t u v ts' at h) = tt
-form_whole all f ts (a_function n cs d p ts' (one_clause n' ps es d' g q r s t xs ys h hs) le) = ((refl, not_none es g ys hs, tt), tt)
+form_whole all f ts (a_function n cs d p ts' h le) = ((are_some all n cs d ts' h, have_bodies all n cs d ts' h), tt)
 
 forms_narrow : (all : Texts) (fs : List PlacedTree) (tss : List (List Token)) → SpellsForms all fs tss → Each IsNarrowFunction (functions_in fs)
 forms_narrow all [] [] spelled = tt
@@ -107,30 +121,23 @@ forms_compiled names m forms (Faulty faults) reads is = (is.0, by_case is.1)
 at_start_some : (faults : List Fault) (code : ℕ) → faults ≡ at_start code [] ∷ [] → faults ≢ []
 at_start_some faults code is none = let bad : [] ≡ at_start code [] ∷ [] = sym none ∙ is in cc
 
-pub text_compiled : (names : Texts) (source : List ℕ) (forms : List (List Token)) (result : Compiled) → AllDiffer names → forms ≢ [] → ScansTo names 0 source forms → Each (Each (IsNamed names)) forms
+pub text_compiled : (names : Texts) (source : List ℕ) (forms : List (List Token)) (result : Compiled) → AllDiffer names → forms ≢ [] → ScansTo names 0 source forms
     → IsCompiledForms names forms result → IsCompiledText source result
-text_compiled names source [] result differ some scanned named is = absurd (some refl)
-text_compiled names source (form ∷ forms) (Module l) differ some scanned named is =
-    let origin : IsSource names source is.0 = record { differ = differ; forms = form ∷ forms; scanned = scanned; named = named; spelled = is.1; built = is.2.built } in (
+text_compiled names source [] result differ some scanned is = absurd (some refl)
+text_compiled names source (form ∷ forms) (Module l) differ some scanned is =
+    let origin : IsSource names source is.0 = record { differ = differ; forms = form ∷ forms; scanned = scanned; spelled = is.1; built = is.2.built } in (
       of_module names is.0 origin is.2.are,
       record { all = names; module_tree = is.0; spelled = origin; later = l.names; extends = is.3.extends; written = written names is.0 (form ∷ forms) l is.1 is.3 },
       is.3.writable,
     )
-text_compiled names source (form ∷ forms) (Faulty faults) differ some scanned named is = (by_case is.1, is.0)
+text_compiled names source (form ∷ forms) (Faulty faults) differ some scanned is = (by_case is.1, is.0)
   where
     by_case : ((m : ModuleTree) × SpellsModule names m (form ∷ forms) × IsFaulty names m faults) ⊎ (((m : ModuleTree) → SpellsModule names m (form ∷ forms) → IsBuilt names m → ⊥) × (faults ≡ at_start 500 [] ∷ []))
         → HasFaults source faults
-    by_case (inl here) = of_module names here.0 (record { differ = differ; forms = form ∷ forms; scanned = scanned; named = named; spelled = here.1; built = here.2.built }) here.2.are
+    by_case (inl here) = of_module names here.0 (record { differ = differ; forms = form ∷ forms; scanned = scanned; spelled = here.1; built = here.2.built }) here.2.are
     by_case (inr none) = not_built names form forms scanned (λ all m origin.
         let other = other_source names all source (form ∷ forms) m differ scanned origin in
         none.0 other.module_tree other.spelled other.is.built) none.1
-
--- with the anonymous variable
-pub unnamed_compiled : (names : Texts) (source : List ℕ) (forms : List (List Token)) (faults : List Fault) → AllDiffer names → forms ≢ [] → ScansTo names 0 source forms → (Each (Each (IsNamed names)) forms → ⊥)
-    → faults ≡ at_start 500 [] ∷ [] → IsCompiledText source (Faulty faults)
-unnamed_compiled names source [] faults differ some scanned unnamed is = absurd (some refl)
-unnamed_compiled names source (form ∷ forms) faults differ some scanned unnamed is =
-    (not_built names form forms scanned (λ all m origin. unnamed (other_source names all source (form ∷ forms) m differ scanned origin).named) is, at_start_some faults 500 is)
 
 -- without forms
 pub blank_compiled : (names : Texts) (source : List ℕ) (scanned : List ScannedForm) (faults : List Fault) → IsScanned names 0 source scanned → scanned ≡ [] → faults ≡ at_start 308 [] ∷ [] → IsCompiledText source (Faulty faults)

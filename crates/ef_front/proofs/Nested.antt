@@ -1,5 +1,5 @@
 -- A written module is no deeper than a text may be.
-use Rattle.std.specs.Prelude.{ℕ, max, ◌*◌, ◌≤◌, ◌≡◌, List, [], ◌∷◌, ◌++◌, refl}
+use Rattle.std.specs.Prelude.{◌*◌, ◌≤◌, ◌≡◌, List, [], ◌∷◌, ◌++◌, refl}
 use Rattle.std.proofs.Common.{arith, ap, sym, subst}
 use Rattle.ef_base.specs.Texts.{Texts}
 use Rattle.ef_token.specs.declared.token.Token.{Token}
@@ -28,7 +28,7 @@ IsNested f = function_depth f ≤ most_nesting
 form_nested : (all : Texts) (f : FormTree) (ts : List Token) → SpellsForm all f ts → Each IsNested (functions_of f)
 form_nested all f ts (a_module_name m n p q r s t u at) = tt
 form_nested all f ts (an_export m fs p q r s t u v ts' at h) = tt
-form_nested all f ts (a_function n cs d p ts' h le) = let within = clauses_nest n cs d ts' h in (omega arith, tt)
+form_nested all f ts (a_function n cs d p ts' h le) = let within = clauses_nest all n cs d ts' h in (omega arith, tt)
 
 pub each_joined : {A : Type 0} (P : A → Type 0) (xs ys : List A) → Each P xs → Each P ys → Each P (xs ++ ys)
 each_joined P [] ys first second = second

@@ -1,5 +1,6 @@
 -- Trees all of whose names have a property, which they take from the tokens that spell them.
-use Rattle.std.proofs.Common.{ℕ, List, [], ◌∷◌, ◌++◌, map, subst, sym}
+use Rattle.std.proofs.Common.{ℕ, List, [], ◌∷◌, ◌++◌, map}
+use Rattle.ef_base.specs.declared.fault.Place.{Place}
 use Rattle.ef_base.specs.declared.name.Name.{Name}
 use Rattle.ef_token.specs.declared.token.TokenKind.{TokenKind}
 use Rattle.ef_token.specs.declared.token.TokenKind.TheVariants as kind
@@ -7,9 +8,9 @@ use Rattle.ef_token.specs.declared.token.Token.{Token}
 use Rattle.ef_scan.specs.Scan.{joined}
 use Rattle.ef_forms.specs.declared.form.FunctionRef.{FunctionRef}
 use Rattle.ef_forms.specs.declared.tables.FunctionName.{FunctionName}
-use Rattle.ef_forms.specs.Tree.{Tree, Shape, Trees, Clauses, FunctionTree, FormTree, PlacedTree, tree, int, atom, var, call, remote, end, more, no_clauses, clause, module_name, export, function}
-use Rattle.ef_forms.specs.Built.{Each, AreVariables, name_of, key_of, functions_of, functions_in, exports_of, exports_in, defined_in}
-use Rattle.ef_parse.specs.Grammar.{Spells, SpellsAll, SpellsSome, SpellsClauses, max_level, a_variable, an_atom, an_integer, parentheses, a_call, a_remote, nothing, some, one, and_more, one_clause}
+use Rattle.ef_forms.specs.Tree.{Tree, Shape, Trees, Clauses, FunctionTree, FormTree, PlacedTree, tree, int, atom, var, any, list, list_to, tuple, matching, call, remote, end, more, no_clauses, clause, module_name, export, function}
+use Rattle.ef_forms.specs.Built.{Each, name_of, key_of, functions_of, functions_in, exports_of, exports_in, defined_in}
+use Rattle.ef_parse.specs.Grammar.{Spells, SpellsAll, SpellsSome, SpellsClause, SpellsClauses, max_level, a_variable, an_underscore, an_atom, an_integer, parentheses, a_list, a_list_to, a_tuple, a_match, a_call, a_remote, nothing, some, one, and_more, a_clause, one_clause, and_clauses}
 use Rattle.ef_base.specs.Texts.{Texts}
 use Rattle.ef_module.specs.Forms.{SpellsReference, SpellsReferences, SpellsReferenceList, a_reference, SpellsForm, SpellsForms, a_module_name, an_export, a_function}
 use Rattle.ef_module.specs.Forms as forms
@@ -32,6 +33,11 @@ module _ (Q : Name → Type 0) where
     ShapeOf (int i) = Unit {0}
     ShapeOf (atom n) = Q n
     ShapeOf (var n) = Q n
+    ShapeOf any = Unit {0}
+    ShapeOf (list es) = TreesOf es
+    ShapeOf (list_to es e) = TreesOf es × TreeOf e
+    ShapeOf (tuple es) = TreesOf es
+    ShapeOf (matching p e) = TreeOf p × TreeOf e
     ShapeOf (call f es) = TreeOf f × TreesOf es
     ShapeOf (remote m f es) = TreeOf m × TreeOf f × TreesOf es
 
@@ -69,29 +75,43 @@ module _ (Q : Name → Type 0) where
   second [] us h = h
   second (t ∷ ts) us h = second ts us h.1
 
-  mutual
-    tree_of : (e : Tree) (k d : ℕ) (ts : List Token) → Spells e k d ts → TokensOf ts → TreeOf e
-    tree_of e k d ts (a_variable n p) h = h.0
-    tree_of e k d ts (an_atom n p) h = h.0
-    tree_of e k d ts (an_integer i p) h = tt
-    tree_of e k d ts (parentheses e' k' d' p q es s) h = tree_of e' k' d' es s (first es _ h.1)
-    tree_of e k d ts (a_call f args d' g p q fs xs s ss) h =
-        (tree_of f max_level d' fs s (first fs _ h), trees_of args g xs ss (first xs _ (second fs _ h).1))
-    tree_of e k d ts (a_remote m f args c d' g p q r ms fs xs s s' ss) h =
-        (tree_of m max_level c ms s (first ms _ h), tree_of f max_level d' fs s' (first fs _ (second ms _ h).1), trees_of args g xs ss (first xs _ (second fs _ (second ms _ h).1).1))
+  module _ (all : Texts) where
+    mutual
+      tree_of : (e : Tree) (k d : ℕ) (ts : List Token) → Spells all e k d ts → TokensOf ts → TreeOf e
+      tree_of e k d ts (a_variable n p w) h = h.0
+      tree_of e k d ts (an_underscore n p w) h = tt
+      tree_of e k d ts (an_atom n p) h = h.0
+      tree_of e k d ts (an_integer i p) h = tt
+      tree_of e k d ts (parentheses e' k' d' p q es s) h = tree_of e' k' d' es s (first es _ h.1)
+      tree_of e k d ts (a_list es g p q xs ss) h = trees_of es g xs ss (first xs _ h.1)
+      tree_of e k d ts (a_list_to es e' k' d' g p q r xs us ss s) h =
+          (some_of es g xs ss (first xs _ h.1), tree_of e' k' d' us s (first us _ (second xs _ h.1).1))
+      tree_of e k d ts (a_tuple es g p q xs ss) h = trees_of es g xs ss (first xs _ h.1)
+      tree_of e k d ts (a_match l e' j k' d' g p ls es low s s') h =
+          (tree_of l j d' ls s (first ls _ h), tree_of e' k' g es s' (second ls _ h).1)
+      tree_of e k d ts (a_call f args d' g p q fs xs s ss) h =
+          (tree_of f max_level d' fs s (first fs _ h), trees_of args g xs ss (first xs _ (second fs _ h).1))
+      tree_of e k d ts (a_remote m f args c d' g p q r ms fs xs s s' ss) h =
+          (tree_of m max_level c ms s (first ms _ h), tree_of f max_level d' fs s' (first fs _ (second ms _ h).1), trees_of args g xs ss (first xs _ (second fs _ (second ms _ h).1).1))
 
-    trees_of : (es : Trees) (d : ℕ) (ts : List Token) → SpellsAll es d ts → TokensOf ts → TreesOf es
-    trees_of es d ts nothing h = tt
-    trees_of es d ts (some es' d' ts' s) h = some_of es' d' ts' s h
+      trees_of : (es : Trees) (d : ℕ) (ts : List Token) → SpellsAll all es d ts → TokensOf ts → TreesOf es
+      trees_of es d ts nothing h = tt
+      trees_of es d ts (some es' d' ts' s) h = some_of es' d' ts' s h
 
-    some_of : (es : Trees) (d : ℕ) (ts : List Token) → SpellsSome es d ts → TokensOf ts → TreesOf es
-    some_of es d ts (one e k d' ts' s) h = (tree_of e k d' ts' s h, tt)
-    some_of es d ts (and_more e es' k d' g p ts' us s ss) h =
-        (tree_of e k d' ts' s (first ts' _ h), some_of es' g us ss (second ts' _ h).1)
+      some_of : (es : Trees) (d : ℕ) (ts : List Token) → SpellsSome all es d ts → TokensOf ts → TreesOf es
+      some_of es d ts (one e k d' ts' s) h = (tree_of e k d' ts' s h, tt)
+      some_of es d ts (and_more e es' k d' g p ts' us s ss) h =
+          (tree_of e k d' ts' s (first ts' _ h), some_of es' g us ss (second ts' _ h).1)
 
-  clauses_of : (n : Name) (cs : Clauses) (d : ℕ) (ts : List Token) → SpellsClauses n cs d ts → TokensOf ts → Q n × ClausesOf cs
-  clauses_of n cs d ts (one_clause n' ps es c g p q r s xs ys ss ss') h =
-      (h.0, (trees_of ps c xs ss (first xs _ h.1.1), some_of es g ys ss' (second xs _ h.1.1).1.1, tt))
+    clause_of : (n : Name) (p : Place) (ps es : Trees) (d : ℕ) (ts : List Token) → SpellsClause all n p ps es d ts → TokensOf ts → Q n × TreesOf ps × TreesOf es
+    clause_of n p ps es d ts (a_clause n' ps' es' c g p' q r s xs ys ss ss') h =
+        (h.0, trees_of ps' c xs ss (first xs _ h.1.1), some_of es' g ys ss' (second xs _ h.1.1).1.1)
+
+    clauses_of : (n : Name) (cs : Clauses) (d : ℕ) (ts : List Token) → SpellsClauses all n cs d ts → TokensOf ts → Q n × ClausesOf cs
+    clauses_of n cs d ts (one_clause n' p ps es d' ts' s) h =
+        let here = clause_of n' p ps es d' ts' s h in (here.0, (here.1, here.2, tt))
+    clauses_of n cs d ts (and_clauses n' p ps es cs' d' g q ts' us s ss) h =
+        let here = clause_of n' p ps es d' ts' s (first ts' _ h) in (here.0, (here.1, here.2, (clauses_of n' cs' g us ss (second ts' _ h).1).1))
 
   reference_of : (f : FunctionRef) (ts : List Token) → SpellsReference f ts → TokensOf ts → Q f.name
   reference_of f ts (a_reference n arity p q u) h = h.0
@@ -107,7 +127,7 @@ module _ (Q : Name → Type 0) where
   form_of : (all : Texts) (f : FormTree) (ts : List Token) → SpellsForm all f ts → TokensOf ts → FormOf f
   form_of all f ts (a_module_name m n p q r s t u is) h = h.1.1.1.0
   form_of all f ts (an_export m fs p q r s t u v ts' is ss) h = reference_list_of fs ts' ss (first ts' _ h.1.1.1.1)
-  form_of all f ts (a_function n cs d p ts' s small) h = clauses_of n cs d ts' s (first ts' _ h)
+  form_of all f ts (a_function n cs d p ts' s small) h = clauses_of all n cs d ts' s (first ts' _ h)
 
   pub forms_of : (all : Texts) (fs : List PlacedTree) (tss : List (List Token)) → SpellsForms all fs tss → TokensOf (joined tss) → FormsOf fs
   forms_of all [] [] s h = tt
@@ -152,13 +172,3 @@ module _ (Q : Name → Type 0) where
   pub all_exports : (fs : List PlacedTree) → FormsOf fs → Each KeyOf (exports_in fs)
   all_exports [] h = tt
   all_exports (f ∷ fs) h = each_append KeyOf (exports_of f.form) (exports_in fs) (exports_of_form f.form h.0) (all_exports fs h.1)
-
-  pub variables : (es : Trees) (ns : List Name) → AreVariables es ns → TreesOf es → Each Q ns
-  variables end [] v h = tt
-  variables end (n ∷ ns) v h = absurd v
-  variables (more (tree p (var n)) es) (m ∷ ns) v h = (subst Q (sym v.0) h.0, variables es ns v.1 h.1)
-  variables (more (tree p (var n)) es) [] v h = absurd v
-  variables (more (tree p (int i)) es) ns v h = absurd v
-  variables (more (tree p (atom n)) es) ns v h = absurd v
-  variables (more (tree p (call f xs)) es) ns v h = absurd v
-  variables (more (tree p (remote m f xs)) es) ns v h = absurd v

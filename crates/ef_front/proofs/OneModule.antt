@@ -10,7 +10,7 @@ use Rattle.ef_token.specs.declared.word.Sym.{Sym}
 use Rattle.ef_token.specs.declared.word.Sym.TheVariants as sy
 use Rattle.ef_forms.specs.declared.form.FunctionRef.{FunctionRef}
 use Rattle.ef_forms.specs.Tree.{Clauses, FormTree, PlacedTree, ModuleTree, module_name, export, function}
-use Rattle.ef_parse.specs.Grammar.{token, symbol, start_of, SpellsClauses, one_clause}
+use Rattle.ef_parse.specs.Grammar.{token, symbol, start_of, SpellsClauses, a_clause, one_clause, and_clauses}
 use Rattle.ef_parse.proofs.One.{one_clauses}
 use Rattle.ef_module.specs.Forms as forms
 use Rattle.ef_module.specs.Forms.{SpellsReference, SpellsReferences, SpellsReferenceList, SpellsForm, SpellsForms, SpellsModule, IsInOrder, a_reference, arity_of, a_module_name, an_export, a_function}
@@ -149,9 +149,11 @@ record HeadOf (n : Name) (ts : List Token) : Type 0 where
   rest : List Token
   is : ts ≡ token (kind.Atom n) p ∷ rest
 
-head_of : (n : Name) (cs : Clauses) (d : ℕ) (ts : List Token) → SpellsClauses n cs d ts → HeadOf n ts
-head_of n cs d ts (one_clause n' ps es c g p q r s xs ys ss ss') =
-    record { p = p; rest = symbol sy.LeftParen q ∷ (xs ++ symbol sy.RightParen r ∷ symbol sy.Arrow s ∷ ys); is = refl }
+head_of : (all : Texts) (n : Name) (cs : Clauses) (d : ℕ) (ts : List Token) → SpellsClauses all n cs d ts → HeadOf n ts
+head_of all n cs d ts (one_clause n' p ps es d' ts' (a_clause n'' ps' es' c g p' q r s xs ys ss ss')) =
+    record { p = p'; rest = symbol sy.LeftParen q ∷ (xs ++ symbol sy.RightParen r ∷ symbol sy.Arrow s ∷ ys); is = refl }
+head_of all n cs d ts (and_clauses n' p ps es cs' d' f w us vs (a_clause n'' ps' es' c g p' q r s xs ys ss ss') more) =
+    record { p = p'; rest = symbol sy.LeftParen q ∷ ((xs ++ symbol sy.RightParen r ∷ symbol sy.Arrow s ∷ ys) ++ symbol sy.Semicolon w ∷ vs); is = refl }
 
 abbrev function_at : List Token → Name → Clauses → FormTree
 function_at ts n cs = function (record { place = start_of ts; name = n; arity = arity_of cs; clauses = cs })
@@ -161,7 +163,7 @@ module _ (all : Texts) where
   one_form f g ts us (a_module_name m n p q r s t u is) (a_module_name m' n' p' q' r' s' t' u' is') e = ap module_name (same_atom n n' s s' (cc e))
   one_form f g ts us (a_module_name m n p q r s t u is) (an_export m' fs p' q' r' s' t' u' v ys is' ss) e = absurd (no_symbol n sy.LeftBracket s s' (cc e))
   one_form f g ts us (a_module_name m n p q r s t u is) (a_function n' cs d p' ys ss small) e =
-      let head = head_of n' cs d ys ss in
+      let head = head_of all n' cs d ys ss in
       let clash : attribute m p q r (token (kind.Atom n) s ∷ symbol sy.RightParen t ∷ token kind.Dot u ∷ []) ≡ token (kind.Atom n') head.p ∷ (head.rest ++ token kind.Dot p' ∷ []) =
       e ∙ ap (λ l. l ++ token kind.Dot p' ∷ []) head.is in
       absurd (no_symbol n' sy.Minus head.p p (sym (cc clash)))
@@ -169,27 +171,27 @@ module _ (all : Texts) where
   one_form f g ts us (an_export m fs p q r s t u v xs is ss) (an_export m' gs p' q' r' s' t' u' v' ys is' ss') e =
       ap export (one_reference_list fs gs xs ys ss ss' (same_front xs ys (closed t u v) (closed t' u' v') refl (cc e)))
   one_form f g ts us (an_export m fs p q r s t u v xs is ss) (a_function n' cs d p' ys ss' small) e =
-      let head = head_of n' cs d ys ss' in
+      let head = head_of all n' cs d ys ss' in
       let clash : attribute m p q r (symbol sy.LeftBracket s ∷ (xs ++ closed t u v)) ≡ token (kind.Atom n') head.p ∷ (head.rest ++ token kind.Dot p' ∷ []) =
       e ∙ ap (λ l. l ++ token kind.Dot p' ∷ []) head.is in
       absurd (no_symbol n' sy.Minus head.p p (sym (cc clash)))
   one_form f g ts us (a_function n cs d p xs ss small) (a_module_name m' n' p' q' r' s' t' u' is') e =
-      let head = head_of n cs d xs ss in
+      let head = head_of all n cs d xs ss in
       let clash : token (kind.Atom n) head.p ∷ (head.rest ++ token kind.Dot p ∷ []) ≡ attribute m' p' q' r' (token (kind.Atom n') s' ∷ symbol sy.RightParen t' ∷ token kind.Dot u' ∷ []) =
       ap (λ l. l ++ token kind.Dot p ∷ []) (sym head.is) ∙ e in
       absurd (no_symbol n sy.Minus head.p p' (cc clash))
   one_form f g ts us (a_function n cs d p xs ss small) (an_export m' gs p' q' r' s' t' u' v' ys is' ss') e =
-      let head = head_of n cs d xs ss in
+      let head = head_of all n cs d xs ss in
       let clash : token (kind.Atom n) head.p ∷ (head.rest ++ token kind.Dot p ∷ []) ≡ attribute m' p' q' r' (symbol sy.LeftBracket s' ∷ (ys ++ closed t' u' v')) =
       ap (λ l. l ++ token kind.Dot p ∷ []) (sym head.is) ∙ e in
       absurd (no_symbol n sy.Minus head.p p' (cc clash))
   one_form f g ts us (a_function n cs d p xs ss small) (a_function n' bs d' p' ys ss' small') e =
       let tokens : xs ≡ ys = same_front xs ys (token kind.Dot p ∷ []) (token kind.Dot p' ∷ []) refl e in
-      let head = head_of n cs d xs ss in
-      let other = head_of n' bs d' ys ss' in
+      let head = head_of all n cs d xs ss in
+      let other = head_of all n' bs d' ys ss' in
       let heads : token (kind.Atom n) head.p ∷ head.rest ≡ token (kind.Atom n') other.p ∷ other.rest = sym head.is ∙ tokens ∙ other.is in
       let names : n ≡ n' = same_atom n n' head.p other.p (cc heads) in
-      let clauses : cs ≡ bs = (one_clauses n n' cs bs d d' ys (subst (SpellsClauses n cs d) tokens ss) ss').0 in
+      let clauses : cs ≡ bs = (one_clauses all n n' cs bs d d' ys (subst (SpellsClauses all n cs d) tokens ss) ss').0 in
       ap (λ l. function_at l n cs) tokens ∙ ap (λ k. function_at ys k cs) names ∙ ap (function_at ys n') clauses
 
   one_forms : (fs gs : List PlacedTree) (tss : List (List Token)) → SpellsForms all fs tss → SpellsForms all gs tss → fs ≡ gs

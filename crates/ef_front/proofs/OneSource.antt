@@ -6,28 +6,24 @@ use Rattle.ef_base.specs.Texts.{Texts, AllDiffer}
 use Rattle.ef_token.specs.declared.token.Token.{Token}
 use Rattle.ef_scan.specs.Scan.{Form, tokens, faulty, Scans, ScansTo}
 use Rattle.ef_token.proofs.OneScan.{AreAlike, two_scans}
-use Rattle.ef_forms.specs.Built.{Each}
 use Rattle.ef_forms.specs.Tree.{PlacedTree, ModuleTree}
 use Rattle.ef_module.specs.Forms.{SpellsModule, SpellsForms, IsInOrder}
-use Rattle.ef_front.specs.Source.{IsNamed, IsSource, HasFaulty, HasFaults, blank, faulty_forms, of_module, not_built, faults_in, module_faults}
-use Rattle.ef_front.proofs.Renamed.{other_module, other_named, other_faults}
+use Rattle.ef_front.specs.Source.{IsSource, HasFaulty, HasFaults, blank, faulty_forms, of_module, not_built, faults_in, module_faults}
+use Rattle.ef_front.proofs.Renamed.{other_module, other_faults}
 
 -- a module of the source under the other table, with the same faults
 pub record OtherSource (a b : Texts) (source : List ℕ) (forms : List (List Token)) (m : ModuleTree) : Type 0 where
   pub module_tree : ModuleTree
   pub is : IsSource a source module_tree
-  pub named : Each (Each (IsNamed a)) forms
   pub spelled : SpellsModule a module_tree forms
   pub faults : module_faults a module_tree ≡ module_faults b m
 
 pub other_source : (a b : Texts) (source : List ℕ) (forms : List (List Token)) (m : ModuleTree) → AllDiffer a → ScansTo a 0 source forms → IsSource b source m → OtherSource a b source forms m
 other_source a b source forms m differ scanned is =
     let other = other_module a b source forms is.forms m differ is.differ scanned is.scanned is.spelled is.built in
-    let named = other_named a b source forms is.forms differ scanned is.scanned is.named in
     record {
       module_tree = other.0;
-      is = record { differ = differ; forms = forms; scanned = scanned; named = named; spelled = other.1; built = other.2 };
-      named = named;
+      is = record { differ = differ; forms = forms; scanned = scanned; spelled = other.1; built = other.2 };
       spelled = other.1;
       faults = other.3;
     }

@@ -16,16 +16,16 @@ use Rattle.ef_token.specs.Lexeme.{Lexeme, IsKind, AreTokens, atom, variable, int
 use Rattle.ef_scan.specs.Scan.{tokens, joined, ScansTo}
 use Rattle.ef_token.proofs.OneScan.{AreAlike, two_scans}
 use Rattle.ef_forms.specs.Tree.{FormTree, PlacedTree, ModuleTree, module_name, export, function}
-use Rattle.ef_forms.specs.Built.{Each, IsBuilt, functions_in, most_functions}
+use Rattle.ef_forms.specs.Built.{IsBuilt, functions_in, most_functions}
 use Rattle.ef_parse.specs.Grammar as g
 use Rattle.ef_parse.specs.Grammar.{token, start_of}
 use Rattle.ef_module.specs.Forms.{SpellsForm, SpellsForms, SpellsModule, IsInOrder, AreFunctions, arity_of, a_module_name, an_export, a_function}
-use Rattle.ef_front.proofs.Renaming.{renamed_kind, renamed_token, renamed_clauses, renamed_reference, renamed_function, renamed_form, renamed_placed, renamed_module, same_start, same_arity, apart, narrow_form, spells_clauses, spells_reference_list}
+use Rattle.ef_front.proofs.Renaming.{Keeps, renamed_kind, renamed_token, renamed_clauses, renamed_reference, renamed_function, renamed_form, renamed_placed, renamed_module, same_start, same_arity, apart, narrow_form, spells_clauses, spells_reference_list}
 use Rattle.ef_front.proofs.OfNames.{KindOf, TokensOf, FormsOf, first, second, forms_of}
-use Rattle.ef_front.proofs.RenamedBuilt.{Keeps, functions_renamed, built_module}
+use Rattle.ef_front.proofs.RenamedBuilt.{functions_renamed, built_module}
 use Rattle.ef_front.proofs.RenamedFaults.{faults_renamed}
 use Rattle.ef_front.proofs.OneModule.{one_module}
-use Rattle.ef_front.specs.Source.{IsAnonymous, IsNamed, module_faults}
+use Rattle.ef_front.specs.Source.{module_faults}
 
 -- ---- the name of a text
 
@@ -89,7 +89,7 @@ module _ (a b : Texts) (r : Name → Name) where
       subst (λ l. SpellsForm a (function (record { place = start_of ts'; name = r n; arity = arity_of cs; clauses = renamed_clauses r cs })) l)
       (sym (apart r ts' (token kind.Dot p ∷ [])))
       (subst₂ (λ (start : Place) (arity : ℕ). SpellsForm a (function (record { place = start; name = r n; arity = arity; clauses = renamed_clauses r cs })) (map (renamed_token r) ts' ++ token kind.Dot p ∷ []))
-      (same_start r ts') (same_arity r cs) (a_function (r n) (renamed_clauses r cs) d p (map (renamed_token r) ts') (spells_clauses r n cs d ts' s) small))
+      (same_start r ts') (same_arity r cs) (a_function (r n) (renamed_clauses r cs) d p (map (renamed_token r) ts') (spells_clauses a b r n cs d ts' s (first (Keeps a b r) ts' _ h)) small))
 
   spells_forms : (fs : List PlacedTree) (tss : List (List Token)) → SpellsForms b fs tss → TokensOf (Keeps a b r) (joined tss)
       → SpellsForms a (map (renamed_placed r) fs) (map (map (renamed_token r)) tss)
@@ -189,32 +189,6 @@ pub forms_alike : (a b : Texts) (file : ℕ) (source : List ℕ) (forms_a forms_
 forms_alike a b file source forms_a forms_b differ one two =
     all_renamed a b (renaming a b) forms_a forms_b
     (two_scans a b file source (IsRenamed a b (renaming a b)) (map tokens forms_a) (map tokens forms_b) (tokens_alike a b differ file) one two)
-
--- none is the anonymous variable under the other table
-token_named : (a b : Texts) (r : Name → Name) (k : TokenKind) → KindOf (Keeps a b r) k → (IsAnonymous b k → ⊥) → IsAnonymous a (renamed_kind r k) → ⊥
-token_named a b r (kind.Var n) keep named is = named (sym keep.same ∙ is)
-token_named a b r (kind.Atom n) keep named is = is
-token_named a b r (kind.Int i) keep named is = is
-token_named a b r (kind.Char c) keep named is = is
-token_named a b r (kind.Str s) keep named is = is
-token_named a b r (kind.Word w) keep named is = is
-token_named a b r (kind.Sym s) keep named is = is
-token_named a b r kind.Dot keep named is = is
-
-tokens_named : (a b : Texts) (r : Name → Name) (ts : List Token) → TokensOf (Keeps a b r) ts → Each (IsNamed b) ts → Each (IsNamed a) (map (renamed_token r) ts)
-tokens_named a b r [] keep named = tt
-tokens_named a b r (t ∷ ts) keep named = (token_named a b r t.kind keep.0 named.0, tokens_named a b r ts keep.1 named.1)
-
-forms_named : (a b : Texts) (r : Name → Name) (forms : List (List Token)) → TokensOf (Keeps a b r) (joined forms) → Each (Each (IsNamed b)) forms → Each (Each (IsNamed a)) (map (map (renamed_token r)) forms)
-forms_named a b r [] keep named = tt
-forms_named a b r (f ∷ fs) keep named =
-    (tokens_named a b r f (first (Keeps a b r) f (joined fs) keep) named.0, forms_named a b r fs (second (Keeps a b r) f (joined fs) keep) named.1)
-
-pub other_named : (a b : Texts) (source : List ℕ) (forms_a forms_b : List (List Token)) → AllDiffer a → ScansTo a 0 source forms_a → ScansTo b 0 source forms_b → Each (Each (IsNamed b)) forms_b
-    → Each (Each (IsNamed a)) forms_a
-other_named a b source forms_a forms_b differ one two named =
-    let alike = forms_alike a b 0 source forms_a forms_b differ one two in
-    subst (Each (Each (IsNamed a))) alike.renamed (forms_named a b (renaming a b) forms_b alike.keep named)
 
 -- the module of a text under one table is, renamed, one under the other, with the same faults
 pub other_module : (a b : Texts) (source : List ℕ) (forms_a forms_b : List (List Token)) (m : ModuleTree) → AllDiffer a → AllDiffer b → ScansTo a 0 source forms_a → ScansTo b 0 source forms_b

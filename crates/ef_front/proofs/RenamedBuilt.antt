@@ -2,14 +2,14 @@
 use Rattle.std.proofs.Common.{◌≡◌, inl, inr, ℕ, List, [], ◌∷◌, ◌++◌, refl, sym, ap, ap₂, ◌∙◌, subst, subst₂, map}
 use Rattle.std.proofs.lemmas.List.{map-append}
 use Rattle.ef_base.specs.declared.name.Name.{Name}
-use Rattle.ef_base.specs.Texts.{Texts, AllDiffer, HasName, text}
+use Rattle.ef_base.specs.Texts.{Texts, AllDiffer, text}
 use Rattle.ef_base.specs.Laws.{same_name}
 use Rattle.ef_forms.specs.declared.form.FunctionRef.{FunctionRef}
 use Rattle.ef_forms.specs.declared.tables.FunctionName.{FunctionName}
-use Rattle.ef_forms.specs.Tree.{Tree, Shape, Trees, Clauses, FunctionTree, FormTree, PlacedTree, ModuleTree, tree, int, atom, var, call, remote, end, more, no_guard, or_guard, no_clauses, clause, module_name, export, function, count}
-use Rattle.ef_forms.specs.Built.{Each, IsAmong, IsDistinct, IsDefined, IsModuleInfo, IsCallOf, IsForeignModule, IsAtom, IsBuiltTree, IsBuiltShape, AreBuilt, AreVariables, IsBuiltClauses, IsBuiltFunction, IsBuilt, name_of, key_of, functions_of, functions_in, exports_of, exports_in, defined_in}
-use Rattle.ef_front.proofs.Renaming.{renamed, renamed_shape, renamed_all, renamed_clauses, renamed_function, renamed_reference, renamed_key, renamed_form, renamed_placed, renamed_module, same_count}
-use Rattle.ef_front.proofs.OfNames.{TreeOf, ShapeOf, TreesOf, ClausesOf, FunctionOf, KeyOf, FormsOf, all_functions, all_defined, all_exports, variables}
+use Rattle.ef_forms.specs.Tree.{Tree, Shape, Trees, Clauses, FunctionTree, FormTree, PlacedTree, ModuleTree, tree, int, atom, var, any, list, list_to, tuple, matching, call, remote, end, more, no_guard, or_guard, no_clauses, clause, module_name, export, function, count}
+use Rattle.ef_forms.specs.Built.{Each, IsAmong, IsDistinct, IsDefined, IsModuleInfo, IsCallOf, IsForeignModule, IsAtom, IsPattern, IsPatternShape, ArePatterns, IsBuiltTree, IsBuiltShape, AreBuilt, AreBuiltClauses, IsBuiltFunction, IsBuilt, name_of, key_of, functions_of, functions_in, exports_of, exports_in, defined_in}
+use Rattle.ef_front.proofs.Renaming.{renamed, renamed_shape, renamed_all, renamed_clauses, renamed_function, renamed_reference, renamed_key, renamed_form, renamed_placed, renamed_module, Keeps, same_count}
+use Rattle.ef_front.proofs.OfNames.{TreeOf, ShapeOf, TreesOf, ClausesOf, FunctionOf, KeyOf, FormsOf, all_functions, all_defined, all_exports}
 
 -- ---- lists
 
@@ -65,23 +65,7 @@ module _ (r : Name → Name) where
   exports_renamed (f ∷ fs) =
       ap₂ (λ gs hs. gs ++ hs) (exports_of_renamed f.form) (exports_renamed fs) ∙ sym (map-append (renamed_key r) (exports_of f.form) (exports_in fs))
 
-  variables_renamed : (es : Trees) (ns : List Name) → AreVariables es ns → AreVariables (renamed_all r es) (map r ns)
-  variables_renamed end [] v = tt
-  variables_renamed end (n ∷ ns) v = absurd v
-  variables_renamed (more (tree p (var n)) es) (m ∷ ns) v = (ap r v.0, variables_renamed es ns v.1)
-  variables_renamed (more (tree p (var n)) es) [] v = absurd v
-  variables_renamed (more (tree p (int i)) es) ns v = absurd v
-  variables_renamed (more (tree p (atom n)) es) ns v = absurd v
-  variables_renamed (more (tree p (call f xs)) es) ns v = absurd v
-  variables_renamed (more (tree p (remote m f xs)) es) ns v = absurd v
-
 -- ---- tables
-
--- the name of the second table has the same text as its new name in the first
-pub record Keeps (a b : Texts) (r : Name → Name) (n : Name) : Type 0 where
-  pub old : HasName b n
-  pub new : HasName a (r n)
-  pub same : text a (r n) ≡ text b n
 
 module _ (a b : Texts) (r : Name → Name) (differ : AllDiffer b) where
   pub injective : Injective r (Keeps a b r)
@@ -111,6 +95,11 @@ module _ (a b : Texts) (r : Name → Name) (differ : AllDiffer b) where
   call_of defined (tree p (atom m)) n k h = is_defined defined (record { name = m; arity = n }) k h
   call_of defined (tree p (int i)) n k h = absurd h
   call_of defined (tree p (var m)) n k h = absurd h
+  call_of defined (tree p any) n k h = absurd h
+  call_of defined (tree p (list es)) n k h = absurd h
+  call_of defined (tree p (list_to es e)) n k h = absurd h
+  call_of defined (tree p (tuple es)) n k h = absurd h
+  call_of defined (tree p (matching l e)) n k h = absurd h
   call_of defined (tree p (call f es)) n k h = absurd h
   call_of defined (tree p (remote m f es)) n k h = absurd h
 
@@ -118,6 +107,11 @@ module _ (a b : Texts) (r : Name → Name) (differ : AllDiffer b) where
   foreign (tree p (atom m)) k h = λ e. h (sym k.same ∙ e)
   foreign (tree p (int i)) k h = absurd h
   foreign (tree p (var m)) k h = absurd h
+  foreign (tree p any) k h = absurd h
+  foreign (tree p (list es)) k h = absurd h
+  foreign (tree p (list_to es e)) k h = absurd h
+  foreign (tree p (tuple es)) k h = absurd h
+  foreign (tree p (matching l e)) k h = absurd h
   foreign (tree p (call f es)) k h = absurd h
   foreign (tree p (remote m f es)) k h = absurd h
 
@@ -125,8 +119,33 @@ module _ (a b : Texts) (r : Name → Name) (differ : AllDiffer b) where
   is_atom (tree p (atom m)) h = tt
   is_atom (tree p (int i)) h = absurd h
   is_atom (tree p (var m)) h = absurd h
+  is_atom (tree p any) h = absurd h
+  is_atom (tree p (list es)) h = absurd h
+  is_atom (tree p (list_to es e)) h = absurd h
+  is_atom (tree p (tuple es)) h = absurd h
+  is_atom (tree p (matching l e)) h = absurd h
   is_atom (tree p (call f es)) h = absurd h
   is_atom (tree p (remote m f es)) h = absurd h
+
+  mutual
+    pattern : (e : Tree) → IsPattern e → IsPattern (renamed r e)
+    pattern (tree p e) h = pattern_shape e h
+
+    pattern_shape : (e : Shape) → IsPatternShape e → IsPatternShape (renamed_shape r e)
+    pattern_shape (int i) h = tt
+    pattern_shape (atom n) h = tt
+    pattern_shape (var n) h = tt
+    pattern_shape any h = tt
+    pattern_shape (list es) h = patterns es h
+    pattern_shape (list_to es e) h = (patterns es h.0, pattern e h.1)
+    pattern_shape (tuple es) h = patterns es h
+    pattern_shape (matching p e) h = absurd h
+    pattern_shape (call f es) h = absurd h
+    pattern_shape (remote m f es) h = absurd h
+
+    patterns : (es : Trees) → ArePatterns es → ArePatterns (renamed_all r es)
+    patterns end h = tt
+    patterns (more e es) h = (pattern e h.0, patterns es h.1)
 
   module _ (defined : List FunctionName) where
     mutual
@@ -137,6 +156,11 @@ module _ (a b : Texts) (r : Name → Name) (differ : AllDiffer b) where
       built_shape (int i) k h = tt
       built_shape (atom n) k h = tt
       built_shape (var n) k h = tt
+      built_shape any k h = tt
+      built_shape (list es) k h = built_all es k h
+      built_shape (list_to es e) k h = (built_all es k.0 h.0, built e k.1 h.1)
+      built_shape (tuple es) k h = built_all es k h
+      built_shape (matching p e) k h = (pattern p h.0, built e k.1 h.1)
       built_shape (call f es) k h =
           (subst (IsCallOf a (map (renamed_key r) defined) (renamed r f)) (sym (same_count r es)) (call_of defined f (count es) k.0 h.0), built_all es k.1 h.1)
       built_shape (remote m f es) k h = (foreign m k.0 h.0, is_atom f h.1, built_all es k.2 h.2)
@@ -145,23 +169,16 @@ module _ (a b : Texts) (r : Name → Name) (differ : AllDiffer b) where
       built_all end k h = tt
       built_all (more e es) k h = (built e k.0 h.0, built_all es k.1 h.1)
 
-    built_clauses : (cs : Clauses) → ClausesOf (Keeps a b r) cs → IsBuiltClauses b defined cs → IsBuiltClauses a (map (renamed_key r) defined) (renamed_clauses r cs)
-    built_clauses no_clauses k h = absurd h
-    built_clauses (clause p ps (or_guard es gs) body cs) k h = absurd h
-    built_clauses (clause p ps no_guard body (clause q qs g other cs)) k h = absurd h
-    built_clauses (clause p ps no_guard body no_clauses) k h = (
-      (
-        map r h.0.0,
-        variables_renamed r ps h.0.0 h.0.1,
-        distinct_map r (Keeps a b r) h.0.0 injective (variables (Keeps a b r) ps h.0.0 h.0.1 k.0) h.0.2,
-      ),
-      built_all body k.1 h.1,
-    )
+    built_clauses : (arity : ℕ) (cs : Clauses) → ClausesOf (Keeps a b r) cs → AreBuiltClauses b defined arity cs → AreBuiltClauses a (map (renamed_key r) defined) arity (renamed_clauses r cs)
+    built_clauses arity no_clauses k h = tt
+    built_clauses arity (clause p ps (or_guard es gs) body cs) k h = absurd h
+    built_clauses arity (clause p ps no_guard body cs) k h =
+        (same_count r ps ∙ h.0, patterns ps h.1, built_all body k.1 h.2, built_clauses arity cs k.2 h.3)
 
     built_functions : (fs : List FunctionTree) → Each (FunctionOf (Keeps a b r)) fs → Each (IsBuiltFunction b defined) fs → Each (IsBuiltFunction a (map (renamed_key r) defined)) (map (renamed_function r) fs)
     built_functions [] k h = tt
     built_functions (f ∷ fs) k h =
-        ((λ info. h.0.0 (was_info (key_of f) k.0.0 info), built_clauses f.clauses k.0.1 h.0.1), built_functions fs k.1 h.1)
+        ((λ info. h.0.0 (was_info (key_of f) k.0.0 info), built_clauses f.arity f.clauses k.0.1 h.0.1), built_functions fs k.1 h.1)
 
   pub built_module : (m : ModuleTree) → FormsOf (Keeps a b r) m.forms → IsBuilt b m → IsBuilt a (renamed_module r m)
   built_module m k h =

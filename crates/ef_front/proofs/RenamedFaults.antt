@@ -1,17 +1,17 @@
 -- A module under other names of the same texts has the same faults.
-use Rattle.std.proofs.Common.{◌≡◌, ◌==◌, ◌||◌, ℕ, Bool, true, false, if◌then◌else◌, List, [], ◌∷◌, ◌++◌, refl, sym, ap, ap₂, ◌∙◌, map}
+use Rattle.std.proofs.Common.{◌≡◌, ◌==◌, ◌||◌, ℕ, Bool, true, false, if◌then◌else◌, List, [], ◌∷◌, ◌++◌, refl, sym, ap, ap₂, map}
 use Rattle.std.specs.List.{flat_map}
 use Rattle.std.proofs.lemmas.Bool.Decides.{Decides-eqb}
 use Rattle.ef_base.specs.declared.fault.Place.{Place}
 use Rattle.ef_base.specs.declared.fault.Fault.{Fault}
 use Rattle.ef_base.specs.declared.name.Name.{Name}
 use Rattle.ef_base.specs.Texts.{Texts, AllDiffer}
-use Rattle.ef_forms.specs.Tree.{Tree, Shape, Trees, Clauses, FormTree, PlacedTree, tree, int, atom, var, call, remote, end, more, no_clauses, clause, module_name, export, function}
-use Rattle.ef_forms.specs.Ways.{NameSet, Way, no_names, one_name, union, bind, beside, ways, shape_ways, side_by_side, names, shape_names, all_names, on_some, use_faults, faults, shape_faults, all_faults, body_faults, clauses_faults}
+use Rattle.ef_forms.specs.Tree.{Tree, Shape, Trees, Clauses, FormTree, PlacedTree, tree, int, atom, var, any, list, list_to, tuple, matching, call, remote, end, more, no_clauses, clause, module_name, export, function}
+use Rattle.ef_forms.specs.Ways.{NameSet, Way, no_names, one_name, union, bind, before, beside, ways, shape_ways, side_by_side, names, shape_names, all_names, on_some, use_faults, faults, shape_faults, all_faults, body_faults, clauses_faults}
 use Rattle.ef_front.specs.Source.{form_faults, forms_faults}
-use Rattle.ef_front.proofs.Renaming.{renamed, renamed_shape, renamed_all, renamed_clauses, renamed_form, renamed_placed}
+use Rattle.ef_front.proofs.Renaming.{Keeps, renamed, renamed_shape, renamed_all, renamed_clauses, renamed_form, renamed_placed}
 use Rattle.ef_front.proofs.OfNames.{TreeOf, ShapeOf, TreesOf, ClausesOf, FormOf, FormsOf}
-use Rattle.ef_front.proofs.RenamedBuilt.{Keeps, injective}
+use Rattle.ef_front.proofs.RenamedBuilt.{injective}
 
 same_test : (p q : Bool) → (p ≡ true → q ≡ true) → (q ≡ true → p ≡ true) → p ≡ q
 same_test true q f g = sym (f refl)
@@ -68,6 +68,9 @@ module _ (a b : Texts) (r : Name → Name) (differ : AllDiffer b) where
   alike_bind : (s t : NameSet) → Alike s t → WaysAlike (bind s) (bind t)
   alike_bind s t h = λ u v e. (alike_union u v s t e h, tt)
 
+  alike_before : (f g h k : Way) → WaysAlike f g → WaysAlike h k → WaysAlike (before f h) (before g k)
+  alike_before f g h k one two = λ s t e. alike_flat h k (f s) (g t) two (one s t e)
+
   mutual
     names_alike : (e : Tree) → TreeOf (Keeps a b r) e → Alike (names (renamed r e)) (names e)
     names_alike (tree p e) k = shape_names_alike e k
@@ -76,6 +79,12 @@ module _ (a b : Texts) (r : Name → Name) (differ : AllDiffer b) where
     shape_names_alike (int i) k = λ n l. refl
     shape_names_alike (atom m) k = λ n l. refl
     shape_names_alike (var m) k = alike_one m k
+    shape_names_alike any k = λ n l. refl
+    shape_names_alike (list es) k = all_names_alike es k
+    shape_names_alike (list_to es e) k =
+        alike_union (all_names (renamed_all r es)) (all_names es) (names (renamed r e)) (names e) (all_names_alike es k.0) (names_alike e k.1)
+    shape_names_alike (tuple es) k = all_names_alike es k
+    shape_names_alike (matching p e) k = alike_union (names (renamed r p)) (names p) (names (renamed r e)) (names e) (names_alike p k.0) (names_alike e k.1)
     shape_names_alike (call f es) k =
         alike_union (names (renamed r f)) (names f) (all_names (renamed_all r es)) (all_names es) (names_alike f k.0) (all_names_alike es k.1)
     shape_names_alike (remote m f es) k =
@@ -95,6 +104,14 @@ module _ (a b : Texts) (r : Name → Name) (differ : AllDiffer b) where
     shape_ways_alike (int i) k = λ s t h. (h, tt)
     shape_ways_alike (atom m) k = λ s t h. (h, tt)
     shape_ways_alike (var m) k = alike_bind (one_name (r m)) (one_name m) (alike_one m k)
+    shape_ways_alike any k = λ s t h. (h, tt)
+    shape_ways_alike (list es) k = side_alike es k
+    shape_ways_alike (list_to es e) k =
+        alike_beside (side_by_side (renamed_all r es)) (side_by_side es) (ways (renamed r e)) (ways e) (side_alike es k.0) (ways_alike e k.1)
+    shape_ways_alike (tuple es) k = side_alike es k
+    shape_ways_alike (matching p e) k =
+        alike_before (ways (renamed r e)) (ways e) (bind (names (renamed r p))) (bind (names p)) (ways_alike e k.1)
+        (alike_bind (names (renamed r p)) (names p) (names_alike p k.0))
     shape_ways_alike (call f es) k =
         alike_beside (ways (renamed r f)) (ways f) (side_by_side (renamed_all r es)) (side_by_side es) (ways_alike f k.0) (side_alike es k.1)
     shape_ways_alike (remote m f es) k =
@@ -131,6 +148,11 @@ module _ (a b : Texts) (r : Name → Name) (differ : AllDiffer b) where
     shape_faults_alike p (int i) ss ts k h = refl
     shape_faults_alike p (atom n) ss ts k h = refl
     shape_faults_alike p (var n) ss ts k h = use_alike p n ss ts k h
+    shape_faults_alike p any ss ts k h = refl
+    shape_faults_alike p (list es) ss ts k h = all_faults_alike es ss ts k h
+    shape_faults_alike p (list_to es e) ss ts k h = both (all_faults_alike es ss ts k.0 h) (faults_alike e ss ts k.1 h)
+    shape_faults_alike p (tuple es) ss ts k h = all_faults_alike es ss ts k h
+    shape_faults_alike p (matching q e) ss ts k h = faults_alike e ss ts k.1 h
     shape_faults_alike p (call f es) ss ts k h = both (faults_alike f ss ts k.0 h) (all_faults_alike es ss ts k.1 h)
     shape_faults_alike p (remote m f es) ss ts k h =
         both (faults_alike m ss ts k.0 h) (both (faults_alike f ss ts k.1 h) (all_faults_alike es ss ts k.2 h))

@@ -1,18 +1,21 @@
--- Tokens and trees under other names: renamed tokens spell the renamed tree.
+-- Tokens and trees under other names: where names keep their texts, renamed tokens spell the renamed tree.
 use Rattle.std.proofs.Common.{◌≡◌, ◌≤◌, ◌+◌, ℕ, suc, max, List, [], ◌∷◌, ◌++◌, refl, sym, ap, ◌∙◌, subst, subst₂, map}
 use Rattle.std.proofs.lemmas.List.{map-append}
+use Rattle.ef_base.specs.declared.fault.Place.{Place}
 use Rattle.ef_base.specs.declared.name.Name.{Name}
+use Rattle.ef_base.specs.Texts.{Texts, HasName, text}
 use Rattle.ef_token.specs.declared.token.TokenKind.{TokenKind}
 use Rattle.ef_token.specs.declared.token.TokenKind.TheVariants as kind
 use Rattle.ef_token.specs.declared.token.Token.{Token}
 use Rattle.ef_token.specs.declared.word.Sym.TheVariants as sy
 use Rattle.ef_forms.specs.declared.form.FunctionRef.{FunctionRef}
 use Rattle.ef_forms.specs.declared.tables.FunctionName.{FunctionName}
-use Rattle.ef_forms.specs.Tree.{Tree, Shape, Trees, Guards, Clauses, FunctionTree, FormTree, PlacedTree, ModuleTree, tree, int, atom, var, call, remote, end, more, no_guard, or_guard, no_clauses, clause, module_name, export, function, count}
+use Rattle.ef_forms.specs.Tree.{Tree, Shape, Trees, Guards, Clauses, FunctionTree, FormTree, PlacedTree, ModuleTree, tree, int, atom, var, any, list, list_to, tuple, matching, call, remote, end, more, no_guard, or_guard, no_clauses, clause, module_name, export, function, count}
 use Rattle.ef_forms.specs.Built.{IsNarrow, IsNarrowShape, AreNarrow, AreNarrowGuards, AreNarrowClauses, most_arguments}
-use Rattle.ef_parse.specs.Grammar.{token, symbol, start_of, call_level, max_level, Spells, SpellsAll, SpellsSome, SpellsClauses, a_variable, an_atom, an_integer, parentheses, a_call, a_remote, nothing, some, one, and_more, one_clause}
+use Rattle.ef_parse.specs.Grammar.{token, symbol, start_of, match_level, call_level, max_level, Spells, SpellsAll, SpellsSome, SpellsClause, SpellsClauses, a_variable, an_underscore, an_atom, an_integer, parentheses, a_list, a_list_to, a_tuple, a_match, a_call, a_remote, nothing, some, one, and_more, a_clause, one_clause, and_clauses}
 use Rattle.ef_module.specs.Forms.{SpellsReference, SpellsReferences, SpellsReferenceList, a_reference, arity_of, AreNarrowReferences, IsNarrowForm}
 use Rattle.ef_module.specs.Forms as forms
+use Rattle.ef_front.proofs.OfNames.{TokensOf, first, second}
 
 module _ (r : Name → Name) where
   -- ---- under other names
@@ -33,6 +36,11 @@ module _ (r : Name → Name) where
     renamed_shape (int i) = int i
     renamed_shape (atom n) = atom (r n)
     renamed_shape (var n) = var (r n)
+    renamed_shape any = any
+    renamed_shape (list es) = list (renamed_all es)
+    renamed_shape (list_to es e) = list_to (renamed_all es) (renamed e)
+    renamed_shape (tuple es) = tuple (renamed_all es)
+    renamed_shape (matching p e) = matching (renamed p) (renamed e)
     renamed_shape (call f es) = call (renamed f) (renamed_all es)
     renamed_shape (remote m f es) = remote (renamed m) (renamed f) (renamed_all es)
 
@@ -93,6 +101,11 @@ module _ (r : Name → Name) where
     narrow_shape (int i) h = tt
     narrow_shape (atom n) h = tt
     narrow_shape (var n) h = tt
+    narrow_shape any h = tt
+    narrow_shape (list es) h = narrow_all es h
+    narrow_shape (list_to es e) h = (narrow_all es h.0, narrow e h.1)
+    narrow_shape (tuple es) h = narrow_all es h
+    narrow_shape (matching p e) h = (narrow p h.0, narrow e h.1)
     narrow_shape (call f es) h = (few es h.0, narrow f h.1, narrow_all es h.2)
     narrow_shape (remote m f es) h = (few es h.0, narrow m h.1, narrow f h.2, narrow_all es h.3)
 
@@ -117,47 +130,10 @@ module _ (r : Name → Name) where
   narrow_form (export fs) h = narrow_references fs h
   narrow_form (function f) h = narrow_clauses f.clauses h
 
-  -- ---- what is spelled
-
   pub apart : (ts us : List Token) → map renamed_token (ts ++ us) ≡ map renamed_token ts ++ map renamed_token us
   apart ts us = map-append renamed_token ts us
 
-  mutual
-    pub spells : (e : Tree) (k d : ℕ) (ts : List Token) → Spells e k d ts → Spells (renamed e) k d (map renamed_token ts)
-    spells e k d ts (a_variable n p) = a_variable (r n) p
-    spells e k d ts (an_atom n p) = an_atom (r n) p
-    spells e k d ts (an_integer i p) = an_integer i p
-    spells e k d ts (parentheses e' k' d' p q es s) =
-        subst (λ l. Spells (renamed e') max_level (suc d') (symbol sy.LeftParen p ∷ l)) (sym (apart es (symbol sy.RightParen q ∷ [])))
-        (parentheses (renamed e') k' d' p q (map renamed_token es) (spells e' k' d' es s))
-    spells e k d ts (a_call f args d' g p q fs xs s ss) =
-        subst₂ (λ start l. Spells (tree start (call (renamed f) (renamed_all args))) call_level (suc (max d' g)) l) (same_start fs)
-        (sym (apart fs (symbol sy.LeftParen p ∷ (xs ++ symbol sy.RightParen q ∷ []))
-        ∙ ap (λ l. map renamed_token fs ++ symbol sy.LeftParen p ∷ l) (apart xs (symbol sy.RightParen q ∷ []))))
-        (a_call (renamed f) (renamed_all args) d' g p q (map renamed_token fs) (map renamed_token xs) (spells f max_level d' fs s) (spells_all args g xs ss))
-    spells e k d ts (a_remote m f args c d' g p q t ms fs xs s s' ss) =
-        subst₂ (λ start l. Spells (tree start (remote (renamed m) (renamed f) (renamed_all args))) call_level (suc (max c (max d' g))) l) (same_start ms)
-        (sym (apart ms (symbol sy.Colon p ∷ (fs ++ symbol sy.LeftParen q ∷ (xs ++ symbol sy.RightParen t ∷ [])))
-        ∙ ap (λ l. map renamed_token ms ++ symbol sy.Colon p ∷ l) (apart fs (symbol sy.LeftParen q ∷ (xs ++ symbol sy.RightParen t ∷ []))
-        ∙ ap (λ l. map renamed_token fs ++ symbol sy.LeftParen q ∷ l) (apart xs (symbol sy.RightParen t ∷ [])))))
-        (a_remote (renamed m) (renamed f) (renamed_all args) c d' g p q t (map renamed_token ms) (map renamed_token fs) (map renamed_token xs)
-        (spells m max_level c ms s) (spells f max_level d' fs s') (spells_all args g xs ss))
-
-    spells_all : (es : Trees) (d : ℕ) (ts : List Token) → SpellsAll es d ts → SpellsAll (renamed_all es) d (map renamed_token ts)
-    spells_all es d ts nothing = nothing
-    spells_all es d ts (some es' d' ts' s) = some (renamed_all es') d' (map renamed_token ts') (spells_some es' d' ts' s)
-
-    spells_some : (es : Trees) (d : ℕ) (ts : List Token) → SpellsSome es d ts → SpellsSome (renamed_all es) d (map renamed_token ts)
-    spells_some es d ts (one e k d' ts' s) = one (renamed e) k d' (map renamed_token ts') (spells e k d' ts' s)
-    spells_some es d ts (and_more e es' k d' g p ts' us s ss) =
-        subst (λ l. SpellsSome (more (renamed e) (renamed_all es')) (max d' g) l) (sym (apart ts' (symbol sy.Comma p ∷ us)))
-        (and_more (renamed e) (renamed_all es') k d' g p (map renamed_token ts') (map renamed_token us) (spells e k d' ts' s) (spells_some es' g us ss))
-
-  pub spells_clauses : (n : Name) (cs : Clauses) (d : ℕ) (ts : List Token) → SpellsClauses n cs d ts → SpellsClauses (r n) (renamed_clauses cs) d (map renamed_token ts)
-  spells_clauses n cs d ts (one_clause n' ps es c g p q u s xs ys ss ss') =
-      subst (λ l. SpellsClauses (r n') (clause p (renamed_all ps) no_guard (renamed_all es) no_clauses) (max c g) (token (kind.Atom (r n')) p ∷ symbol sy.LeftParen q ∷ l))
-      (sym (apart xs (symbol sy.RightParen u ∷ symbol sy.Arrow s ∷ ys)))
-      (one_clause (r n') (renamed_all ps) (renamed_all es) c g p q u s (map renamed_token xs) (map renamed_token ys) (spells_all ps c xs ss) (spells_some es g ys ss'))
+  -- ---- references
 
   spells_reference : (f : FunctionRef) (ts : List Token) → SpellsReference f ts → SpellsReference (renamed_reference f) (map renamed_token ts)
   spells_reference f ts (a_reference n arity p q u) = a_reference (r n) arity p q u
@@ -171,3 +147,82 @@ module _ (r : Name → Name) where
   pub spells_reference_list : (fs : List FunctionRef) (ts : List Token) → SpellsReferenceList fs ts → SpellsReferenceList (map renamed_reference fs) (map renamed_token ts)
   spells_reference_list fs ts forms.nothing = forms.nothing
   spells_reference_list fs ts (forms.some fs' ts' s) = forms.some (map renamed_reference fs') (map renamed_token ts') (spells_references fs' ts' s)
+
+-- ---- expressions and clauses
+
+-- the name of the second table has the same text as its new name in the first
+pub record Keeps (a b : Texts) (r : Name → Name) (n : Name) : Type 0 where
+  pub old : HasName b n
+  pub new : HasName a (r n)
+  pub same : text a (r n) ≡ text b n
+
+module _ (a b : Texts) (r : Name → Name) where
+  abbrev Kept : List Token → Type 0
+  Kept ts = TokensOf (Keeps a b r) ts
+
+  abbrev renamed_tokens : List Token → List Token
+  renamed_tokens ts = map (renamed_token r) ts
+
+  mutual
+    spells : (e : Tree) (k d : ℕ) (ts : List Token) → Spells b e k d ts → Kept ts → Spells a (renamed r e) k d (renamed_tokens ts)
+    spells e k d ts (a_variable n p other) h = a_variable (r n) p (λ is. other (sym h.0.same ∙ is))
+    spells e k d ts (an_underscore n p is) h = an_underscore (r n) p (h.0.same ∙ is)
+    spells e k d ts (an_atom n p) h = an_atom (r n) p
+    spells e k d ts (an_integer i p) h = an_integer i p
+    spells e k d ts (parentheses e' k' d' p q es s) h =
+        subst (λ l. Spells a (renamed r e') max_level (suc d') (symbol sy.LeftParen p ∷ l)) (sym (apart r es (symbol sy.RightParen q ∷ [])))
+        (parentheses (renamed r e') k' d' p q (renamed_tokens es) (spells e' k' d' es s (first (Keeps a b r) es _ h.1)))
+    spells e k d ts (a_list es g p q xs ss) h =
+        subst (λ l. Spells a (tree p (list (renamed_all r es))) max_level (suc g) (symbol sy.LeftBracket p ∷ l)) (sym (apart r xs (symbol sy.RightBracket q ∷ [])))
+        (a_list (renamed_all r es) g p q (renamed_tokens xs) (spells_all es g xs ss (first (Keeps a b r) xs _ h.1)))
+    spells e k d ts (a_list_to es e' k' d' g p q u xs us ss s) h =
+        subst (λ l. Spells a (tree p (list_to (renamed_all r es) (renamed r e'))) max_level (suc (max g d')) (symbol sy.LeftBracket p ∷ l))
+        (sym (apart r xs (symbol sy.Bar q ∷ (us ++ symbol sy.RightBracket u ∷ [])) ∙ ap (λ l. renamed_tokens xs ++ symbol sy.Bar q ∷ l) (apart r us (symbol sy.RightBracket u ∷ []))))
+        (a_list_to (renamed_all r es) (renamed r e') k' d' g p q u (renamed_tokens xs) (renamed_tokens us) (spells_some es g xs ss (first (Keeps a b r) xs _ h.1))
+        (spells e' k' d' us s (first (Keeps a b r) us _ (second (Keeps a b r) xs _ h.1).1)))
+    spells e k d ts (a_tuple es g p q xs ss) h =
+        subst (λ l. Spells a (tree p (tuple (renamed_all r es))) max_level (suc g) (symbol sy.LeftBrace p ∷ l)) (sym (apart r xs (symbol sy.RightBrace q ∷ [])))
+        (a_tuple (renamed_all r es) g p q (renamed_tokens xs) (spells_all es g xs ss (first (Keeps a b r) xs _ h.1)))
+    spells e k d ts (a_match l e' j k' d' g p ls es low s s') h =
+        subst₂ (λ start xs. Spells a (tree start (matching (renamed r l) (renamed r e'))) match_level (suc (max d' g)) xs) (same_start r ls) (sym (apart r ls (symbol sy.Match p ∷ es)))
+        (a_match (renamed r l) (renamed r e') j k' d' g p (renamed_tokens ls) (renamed_tokens es) low (spells l j d' ls s (first (Keeps a b r) ls _ h)) (spells e' k' g es s' (second (Keeps a b r) ls _ h).1))
+    spells e k d ts (a_call f args d' g p q fs xs s ss) h =
+        subst₂ (λ start l. Spells a (tree start (call (renamed r f) (renamed_all r args))) call_level (suc (max d' g)) l) (same_start r fs)
+        (sym (apart r fs (symbol sy.LeftParen p ∷ (xs ++ symbol sy.RightParen q ∷ []))
+        ∙ ap (λ l. renamed_tokens fs ++ symbol sy.LeftParen p ∷ l) (apart r xs (symbol sy.RightParen q ∷ []))))
+        (a_call (renamed r f) (renamed_all r args) d' g p q (renamed_tokens fs) (renamed_tokens xs) (spells f max_level d' fs s (first (Keeps a b r) fs _ h))
+        (spells_all args g xs ss (first (Keeps a b r) xs _ (second (Keeps a b r) fs _ h).1)))
+    spells e k d ts (a_remote m f args c d' g p q t ms fs xs s s' ss) h =
+        subst₂ (λ start l. Spells a (tree start (remote (renamed r m) (renamed r f) (renamed_all r args))) call_level (suc (max c (max d' g))) l) (same_start r ms)
+        (sym (apart r ms (symbol sy.Colon p ∷ (fs ++ symbol sy.LeftParen q ∷ (xs ++ symbol sy.RightParen t ∷ [])))
+        ∙ ap (λ l. renamed_tokens ms ++ symbol sy.Colon p ∷ l) (apart r fs (symbol sy.LeftParen q ∷ (xs ++ symbol sy.RightParen t ∷ []))
+        ∙ ap (λ l. renamed_tokens fs ++ symbol sy.LeftParen q ∷ l) (apart r xs (symbol sy.RightParen t ∷ [])))))
+        (a_remote (renamed r m) (renamed r f) (renamed_all r args) c d' g p q t (renamed_tokens ms) (renamed_tokens fs) (renamed_tokens xs)
+        (spells m max_level c ms s (first (Keeps a b r) ms _ h)) (spells f max_level d' fs s' (first (Keeps a b r) fs _ (second (Keeps a b r) ms _ h).1))
+        (spells_all args g xs ss (first (Keeps a b r) xs _ (second (Keeps a b r) fs _ (second (Keeps a b r) ms _ h).1).1)))
+
+    spells_all : (es : Trees) (d : ℕ) (ts : List Token) → SpellsAll b es d ts → Kept ts → SpellsAll a (renamed_all r es) d (renamed_tokens ts)
+    spells_all es d ts nothing h = nothing
+    spells_all es d ts (some es' d' ts' s) h = some (renamed_all r es') d' (renamed_tokens ts') (spells_some es' d' ts' s h)
+
+    spells_some : (es : Trees) (d : ℕ) (ts : List Token) → SpellsSome b es d ts → Kept ts → SpellsSome a (renamed_all r es) d (renamed_tokens ts)
+    spells_some es d ts (one e k d' ts' s) h = one (renamed r e) k d' (renamed_tokens ts') (spells e k d' ts' s h)
+    spells_some es d ts (and_more e es' k d' g p ts' us s ss) h =
+        subst (λ l. SpellsSome a (more (renamed r e) (renamed_all r es')) (max d' g) l) (sym (apart r ts' (symbol sy.Comma p ∷ us)))
+        (and_more (renamed r e) (renamed_all r es') k d' g p (renamed_tokens ts') (renamed_tokens us) (spells e k d' ts' s (first (Keeps a b r) ts' _ h)) (spells_some es' g us ss (second (Keeps a b r) ts' _ h).1))
+
+  spells_clause : (n : Name) (p : Place) (ps es : Trees) (d : ℕ) (ts : List Token) → SpellsClause b n p ps es d ts → Kept ts
+      → SpellsClause a (r n) p (renamed_all r ps) (renamed_all r es) d (renamed_tokens ts)
+  spells_clause n p ps es d ts (a_clause n' ps' es' c g p' q u s xs ys ss ss') h =
+      subst (λ l. SpellsClause a (r n') p' (renamed_all r ps') (renamed_all r es') (max c g) (token (kind.Atom (r n')) p' ∷ symbol sy.LeftParen q ∷ l))
+      (sym (apart r xs (symbol sy.RightParen u ∷ symbol sy.Arrow s ∷ ys)))
+      (a_clause (r n') (renamed_all r ps') (renamed_all r es') c g p' q u s (renamed_tokens xs) (renamed_tokens ys) (spells_all ps' c xs ss (first (Keeps a b r) xs _ h.1.1))
+      (spells_some es' g ys ss' (second (Keeps a b r) xs _ h.1.1).1.1))
+
+  pub spells_clauses : (n : Name) (cs : Clauses) (d : ℕ) (ts : List Token) → SpellsClauses b n cs d ts → Kept ts → SpellsClauses a (r n) (renamed_clauses r cs) d (renamed_tokens ts)
+  spells_clauses n cs d ts (one_clause n' p ps es d' ts' s) h =
+      one_clause (r n') p (renamed_all r ps) (renamed_all r es) d' (renamed_tokens ts') (spells_clause n' p ps es d' ts' s h)
+  spells_clauses n cs d ts (and_clauses n' p ps es cs' d' g q ts' us s ss) h =
+      subst (λ l. SpellsClauses a (r n') (clause p (renamed_all r ps) no_guard (renamed_all r es) (renamed_clauses r cs')) (max d' g) l) (sym (apart r ts' (symbol sy.Semicolon q ∷ us)))
+      (and_clauses (r n') p (renamed_all r ps) (renamed_all r es) (renamed_clauses r cs') d' g q (renamed_tokens ts') (renamed_tokens us)
+      (spells_clause n' p ps es d' ts' s (first (Keeps a b r) ts' _ h)) (spells_clauses n' cs' g us ss (second (Keeps a b r) ts' _ h).1))

@@ -2,6 +2,7 @@
 use Rattle.std.proofs.Common.{◌≡◌, ◌≤◌, ◌+◌, ℕ, List, [], ◌∷◌, ◌++◌, length, ap, ◌∙◌, arith, length-append}
 use Rattle.std.specs.Prelude.{chars, encode_utf8_all}
 use Rattle.std.proofs.lemmas.Str.{encodes-chars, length-le-encodes}
+use Rattle.ef_base.specs.declared.fault.Place.{Place}
 use Rattle.ef_base.specs.declared.name.Name.{Name}
 use Rattle.ef_base.specs.Texts.{Texts}
 use Rattle.ef_base.specs.Positions.{Position, first_position, position_after}
@@ -15,34 +16,47 @@ use Rattle.ef_scan.proofs.TokenForms.{token_forms}
 use Rattle.ef_forms.specs.Tree.{Tree, Trees, Clauses, FunctionTree, FormTree, PlacedTree, ModuleTree}
 use Rattle.ef_forms.specs.Weight.{weight, all_weight, clauses_weight, function_weight}
 use Rattle.ef_forms.specs.Built.{Each, functions_in, functions_of}
-use Rattle.ef_parse.specs.Grammar.{Spells, SpellsAll, SpellsSome, SpellsClauses, a_variable, an_atom, an_integer, parentheses, a_call, a_remote, nothing, some, one, and_more, one_clause}
+use Rattle.ef_parse.specs.Grammar.{Spells, SpellsAll, SpellsSome, SpellsClause, SpellsClauses, a_variable, an_underscore, an_atom, an_integer, parentheses, a_list, a_list_to, a_tuple, a_match, a_call, a_remote, nothing, some, one, and_more, a_clause, one_clause, and_clauses}
 use Rattle.ef_module.specs.Forms.{SpellsForm, SpellsForms, SpellsModule, a_module_name, an_export, a_function}
 
 -- ---- a node takes a token
 
-mutual
-  weighs : (e : Tree) (k d : ℕ) (ts : List Token) → Spells e k d ts → weight e ≤ length ts
-  weighs e k d ts (a_variable n p) = omega arith
-  weighs e k d ts (an_atom n p) = omega arith
-  weighs e k d ts (an_integer i p) = omega arith
-  weighs e k d ts (parentheses e' k' d' p q es h) = let inner = weighs e' k' d' es h in simp length-append (omega arith)
-  weighs e k d ts (a_call f args d' g p q fs xs h hs) =
-      let target = weighs f _ d' fs h in let others = weighs_all args g xs hs in simp length-append (omega arith)
-  weighs e k d ts (a_remote m f args c d' g p q r ms fs xs h h' hs) =
-      let first = weighs m _ c ms h in let second = weighs f _ d' fs h' in let others = weighs_all args g xs hs in simp length-append (omega arith)
+module _ (all : Texts) where
+  mutual
+    weighs : (e : Tree) (k d : ℕ) (ts : List Token) → Spells all e k d ts → weight e ≤ length ts
+    weighs e k d ts (a_variable n p w) = omega arith
+    weighs e k d ts (an_underscore n p w) = omega arith
+    weighs e k d ts (an_atom n p) = omega arith
+    weighs e k d ts (an_integer i p) = omega arith
+    weighs e k d ts (parentheses e' k' d' p q es h) = let inner = weighs e' k' d' es h in simp length-append (omega arith)
+    weighs e k d ts (a_list es g p q xs hs) = let items = weighs_all es g xs hs in simp length-append (omega arith)
+    weighs e k d ts (a_list_to es e' k' d' g p q r xs us hs h) =
+        let items = weighs_some es g xs hs in let tail = weighs e' k' d' us h in simp length-append (omega arith)
+    weighs e k d ts (a_tuple es g p q xs hs) = let items = weighs_all es g xs hs in simp length-append (omega arith)
+    weighs e k d ts (a_match l e' j k' d' g p ls es low h h') =
+        let left = weighs l j d' ls h in let right = weighs e' k' g es h' in simp length-append (omega arith)
+    weighs e k d ts (a_call f args d' g p q fs xs h hs) =
+        let target = weighs f _ d' fs h in let others = weighs_all args g xs hs in simp length-append (omega arith)
+    weighs e k d ts (a_remote m f args c d' g p q r ms fs xs h h' hs) =
+        let home = weighs m _ c ms h in let name = weighs f _ d' fs h' in let others = weighs_all args g xs hs in simp length-append (omega arith)
 
-  weighs_all : (es : Trees) (d : ℕ) (ts : List Token) → SpellsAll es d ts → all_weight es ≤ length ts
-  weighs_all es d ts nothing = omega arith
-  weighs_all es d ts (some es' d' ts' h) = weighs_some es' d' ts' h
+    weighs_all : (es : Trees) (d : ℕ) (ts : List Token) → SpellsAll all es d ts → all_weight es ≤ length ts
+    weighs_all es d ts nothing = omega arith
+    weighs_all es d ts (some es' d' ts' h) = weighs_some es' d' ts' h
 
-  weighs_some : (es : Trees) (d : ℕ) (ts : List Token) → SpellsSome es d ts → all_weight es ≤ length ts
-  weighs_some es d ts (one e k d' ts' h) = let here = weighs e k d' ts' h in omega arith
-  weighs_some es d ts (and_more e es' k d' g p ts' us h hs) =
-      let here = weighs e k d' ts' h in let others = weighs_some es' g us hs in simp length-append (omega arith)
+    weighs_some : (es : Trees) (d : ℕ) (ts : List Token) → SpellsSome all es d ts → all_weight es ≤ length ts
+    weighs_some es d ts (one e k d' ts' h) = let here = weighs e k d' ts' h in omega arith
+    weighs_some es d ts (and_more e es' k d' g p ts' us h hs) =
+        let here = weighs e k d' ts' h in let others = weighs_some es' g us hs in simp length-append (omega arith)
 
-clauses_weigh : (n : Name) (cs : Clauses) (d : ℕ) (ts : List Token) → SpellsClauses n cs d ts → clauses_weight cs ≤ length ts
-clauses_weigh n cs d ts (one_clause n' ps es d' g p q r s xs ys h hs) =
-    let heads = weighs_all ps d' xs h in let body = weighs_some es g ys hs in simp length-append (omega arith)
+  clause_weighs : (n : Name) (p : Place) (ps es : Trees) (d : ℕ) (ts : List Token) → SpellsClause all n p ps es d ts → all_weight ps + all_weight es ≤ length ts
+  clause_weighs n p ps es d ts (a_clause n' ps' es' d' g p' q r s xs ys h hs) =
+      let heads = weighs_all ps' d' xs h in let body = weighs_some es' g ys hs in simp length-append (omega arith)
+
+  clauses_weigh : (n : Name) (cs : Clauses) (d : ℕ) (ts : List Token) → SpellsClauses all n cs d ts → clauses_weight cs ≤ length ts
+  clauses_weigh n cs d ts (one_clause n' p ps es d' ts' h) = let here = clause_weighs n' p ps es d' ts' h in omega arith
+  clauses_weigh n cs d ts (and_clauses n' p ps es cs' d' g q ts' us h hs) =
+      let here = clause_weighs n' p ps es d' ts' h in let others = clauses_weigh n' cs' g us hs in simp length-append (omega arith)
 
 -- ---- functions of forms
 
@@ -60,7 +74,7 @@ light_both most (f ∷ fs) gs light more = (light.0, light_both most fs gs light
 form_light : (all : Texts) (f : FormTree) (ts : List Token) → SpellsForm all f ts → AreLight (length ts) (functions_of f)
 form_light all f ts (a_module_name m n p q r s t u at) = tt
 form_light all f ts (an_export m fs p q r s t u v ts' at h) = tt
-form_light all f ts (a_function n cs d p ts' h le) = let here = clauses_weigh n cs d ts' h in (simp length-append (omega arith), tt)
+form_light all f ts (a_function n cs d p ts' h le) = let here = clauses_weigh all n cs d ts' h in (simp length-append (omega arith), tt)
 
 forms_light : (all : Texts) (fs : List PlacedTree) (tss : List (List Token)) → SpellsForms all fs tss → AreLight (length (joined tss)) (functions_in fs)
 forms_light all [] [] spelled = tt

@@ -1,34 +1,23 @@
 -- The modules, the faults and the texts of a source: relations over its bytes.
-use Rattle.std.specs.Prelude.{ℕ, List, [], ◌∷◌, ◌≡◌, ◌≢◌, codes}
+use Rattle.std.specs.Prelude.{ℕ, List, [], ◌∷◌, ◌≡◌, ◌≢◌}
 use Rattle.std.specs.List.{flat_map}
 use Rattle.ef_base.specs.declared.fault.Fault.{Fault}
 use Rattle.ef_base.specs.Faults.{set_of}
 use Rattle.ef_base.specs.Positions.{first_position, place_at}
-use Rattle.ef_base.specs.Texts.{Texts, AllDiffer, Extends, text}
-use Rattle.ef_token.specs.declared.token.TokenKind.{TokenKind}
-use Rattle.ef_token.specs.declared.token.TokenKind.TheVariants as kind
+use Rattle.ef_base.specs.Texts.{Texts, AllDiffer, Extends}
 use Rattle.ef_token.specs.declared.token.Token.{Token}
 use Rattle.ef_scan.specs.Scan.{Form, tokens, faulty, Scans, ScansTo}
 use Rattle.ef_forms.specs.Tree.{FormTree, PlacedTree, ModuleTree, module_name, export, function}
-use Rattle.ef_forms.specs.Built.{Each, IsBuilt}
+use Rattle.ef_forms.specs.Built.{IsBuilt}
 use Rattle.ef_forms.specs.Ways.{function_faults}
 use Rattle.ef_module.specs.Forms.{SpellsModule}
 use Rattle.ef_front.specs.Written.{IsWritten}
-
--- the anonymous variable `_`, which is not built
-abbrev pub IsAnonymous : Texts → TokenKind → Type 0
-IsAnonymous all (kind.Var n) = text all n ≡ codes "_"
-IsAnonymous all _ = ⊥
-
-abbrev pub IsNamed : Texts → Token → Type 0
-IsNamed all t = IsAnonymous all t.kind → ⊥
 
 -- the text is one of the module, whose names are those of the table
 pub record IsSource (all : Texts) (source : List ℕ) (m : ModuleTree) : Type 0 where
   pub differ : AllDiffer all
   pub forms : List (List Token)
   pub scanned : ScansTo all 0 source forms
-  pub named : Each (Each (IsNamed all)) forms
   pub spelled : SpellsModule all m forms
   pub built : IsBuilt all m
 

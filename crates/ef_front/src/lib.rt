@@ -6,7 +6,6 @@ mod compiling;
 mod faults;
 mod job;
 mod listing;
-mod named;
 mod refused;
 mod source;
 mod telling;

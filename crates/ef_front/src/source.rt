@@ -13,7 +13,6 @@ ghost use Rattle.ef_front.specs.Runs.{IsCompiledText};
 
 use crate::compiling::{Compiled, Lowered};
 use crate::faults::rule_faults;
-use crate::named::are_named;
 use crate::refused::{blank, not_built};
 use ef_base::{FaultList, Names, NoMemory};
 use ef_forms::Module;
@@ -40,9 +39,6 @@ pub fn compile_text(alloc: Global, source: &[u8]) -> Result<Compiled, NoMemory>
     let taken = take_forms(alloc, scanned)?;
     if !taken.faults.faults().is_empty() {
         return Ok(Compiled::Faulty(taken.faults));
-    }
-    if !are_named(&names, &taken.forms) {
-        return Ok(Compiled::Faulty(not_built(alloc)?));
     }
     compile_forms(alloc, names, taken.forms)
 }

@@ -13,6 +13,7 @@ use Rattle.ef_core.proofs.HoldsLaws.{each_same}
 use Rattle.ef_core.specs.Conditions.{MeetsConditions, NoneTwice, conditions, defined}
 use Rattle.ef_core.specs.Everywhere.{AllHold, DefHolds, Each, LitHolds}
 use Rattle.ef_core.specs.LetForm.{AreSimple}
+use Rattle.ef_core.specs.Lowered.{IsLowered, lowered}
 use Rattle.ef_core.specs.OfTable.{CoreModuleOf}
 use Rattle.ef_core.specs.Readable.{IsReadable, readable}
 use Rattle.ef_core.specs.Scope.{InScope, IsAmong}
@@ -22,16 +23,14 @@ use Rattle.ef_forms.specs.declared.tables.FunctionName.{FunctionName}
 use Rattle.ef_forms.specs.Built as forms
 use Rattle.ef_forms.specs.Built.{IsBuilt, IsBuiltFunction, IsDefined, IsDistinct, IsModuleInfo, defined_in, exports_in, functions_in, key_of}
 use Rattle.ef_forms.specs.Tree.{FunctionTree, ModuleTree}
-use Rattle.ef_lower.proofs.Parts.{atom_lowered, variable_lowered}
 use Rattle.ef_lower.proofs.Scopes.{among_more}
-use Rattle.ef_lower.specs.Lowers.{IsLowered, lowered}
 use Rattle.ef_lower.specs.Scope.{HasFunctions, core_name}
 use Rattle.ef_lowmod.specs.declared.info.Fixed.{Fixed}
 use Rattle.ef_lowmod.specs.Function.{AreLowered, IsLoweredFunction}
 use Rattle.ef_lowmod.specs.Info.{AreFixed, fname, info_def, item_def}
 use Rattle.ef_lowmod.specs.Outline.{Outline, is_other}
-use Rattle.ef_lowmod.proofs.Functions.{numbered_readable, numbered_differ}
-use Rattle.ef_lowmod.proofs.Lowered.{lowered_conditions, lowered_readable, text_within}
+use Rattle.ef_lowmod.proofs.Lowered.{atom_lowered, lowered_conditions, lowered_readable, text_within, variable_lowered}
+use Rattle.ef_lowmod.proofs.Numbered.{numbered_readable, numbered_differ}
 
 -- ---- lists
 

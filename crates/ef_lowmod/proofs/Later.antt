@@ -47,6 +47,11 @@ module _ (now all : Texts) (later : Extends now all) where
     shape_later (s.int i) is = tt
     shape_later (s.atom n) is = has_later now all n is later
     shape_later (s.var n) is = has_later now all n is later
+    shape_later s.any is = tt
+    shape_later (s.list es) is = trees_later es is
+    shape_later (s.list_to es e) is = (trees_later es is.0, tree_later e is.1)
+    shape_later (s.tuple es) is = trees_later es is
+    shape_later (s.matching p e) is = (tree_later p is.0, tree_later e is.1)
     shape_later (s.call f es) is = (tree_later f is.0, trees_later es is.1)
     shape_later (s.remote m f es) is = (tree_later m is.0, tree_later f is.1, trees_later es is.2)
 

@@ -1,6 +1,12 @@
-pub mod Functions
+pub mod Numbered
 pub mod Lowered
 pub mod Later
+pub mod Ready
+pub mod Parameters
+pub mod Raises
+pub mod OneClause
+pub mod OwnNames
+pub mod Cases
 pub mod Modules
 pub mod Conditions
 pub mod Means

@@ -2,18 +2,27 @@
 use Rattle.std.proofs.Common.{◌≡◌, ◌<◌, ℕ, zero, suc, inl, inr, List, [], ◌∷◌, length, get_or, arith}
 use Rattle.ef_base.specs.declared.name.Name.{Name}
 use Rattle.ef_base.specs.Laws.{named_later}
-use Rattle.ef_base.specs.Texts.{Extends, IsNameOf, Texts, text}
-use Rattle.ef_core.proofs.HoldsLaws.{holds_map}
+use Rattle.ef_base.specs.Texts.{Extends, HasName, IsNameOf, Texts, text}
+use Rattle.ef_core.proofs.HoldsLaws.{holds_map, pats_hold_map}
 use Rattle.ef_core.proofs.ReadLater.{expr_later, pat_later, literal_later, variable_later, condition_later, pat_right_later}
 use Rattle.ef_core.specs.Conditions.{conditions}
-use Rattle.ef_core.specs.Everywhere.{Holds}
+use Rattle.ef_core.specs.Everywhere.{Holds, PatsHold}
 use Rattle.ef_core.specs.OfTable.{CoreOf, of_table}
 use Rattle.ef_core.specs.Readable.{readable}
-use Rattle.ef_core.specs.Tree.{CoreTree}
+use Rattle.ef_core.specs.Tree.{CoreTree, PatTrees, atom, lit, var}
+use Rattle.ef_core.specs.declared.literal.CoreVar.{CoreVar}
 use Rattle.ef_core.specs.declared.literal.FName.{FName}
 use Rattle.ef_forms.specs.declared.tables.FunctionName.{FunctionName}
-use Rattle.ef_lower.specs.Lowers.{IsLowered, lowered}
+use Rattle.ef_core.specs.Lowered.{IsLowered, lowered}
 use Rattle.ef_lower.specs.Scope.{HasFunctions}
+
+-- ---- atoms and variables
+
+pub atom_lowered : (all : Texts) (n : Name) → HasName all n → IsLowered all (lit (atom n))
+atom_lowered all n named = ((tt, ((tt, (tt, tt)), (tt, tt, tt))), (tt, ((tt, (tt, named)), tt)))
+
+pub variable_lowered : (all : Texts) (v : CoreVar) → (readable all).variable v → IsLowered all (var v)
+variable_lowered all v is = ((tt, ((tt, (tt, tt)), (tt, tt, tt))), (tt, (is, tt)))
 
 -- ---- the parts
 
@@ -45,6 +54,13 @@ module _ (now all : Texts) (later : Extends now all) where
 
   pub lowered_later : (e : CoreTree) → IsLowered now e → IsLowered all e
   lowered_later = holds_map (lowered now) (lowered all)
+      (λ e is. (is.0, (expr_later now all later e is.1.0, condition_later now all later e is.1.1)))
+      (λ p is. (is.0, (pat_later now all later p is.1.0, pat_right_later now all later p is.1.1)))
+      (λ l is. (is.0, (literal_later now all later l is.1.0, is.1.1)))
+      (λ v is. (is.0, (variable_later now all later v is.1.0, is.1.1)))
+
+  pub pats_lowered_later : (ps : PatTrees) → PatsHold (lowered now) ps → PatsHold (lowered all) ps
+  pats_lowered_later = pats_hold_map (lowered now) (lowered all)
       (λ e is. (is.0, (expr_later now all later e is.1.0, condition_later now all later e is.1.1)))
       (λ p is. (is.0, (pat_later now all later p is.1.0, pat_right_later now all later p is.1.1)))
       (λ l is. (is.0, (literal_later now all later l is.1.0, is.1.1)))

@@ -1,59 +1,60 @@
 -- Functions that can be lowered, and what they are lowered to.
-use Rattle.std.specs.Prelude.{ℕ, zero, suc, ◌+◌, ◌≡◌, ◌≤◌, ◌*◌, List, [], ◌∷◌, ◌++◌}
-use Rattle.ef_base.specs.declared.name.Name.{Name}
-use Rattle.ef_base.specs.Texts.{Texts}
-use Rattle.ef_core.specs.declared.literal.CoreVar.{CoreVar}
-use Rattle.ef_core.specs.declared.literal.CoreVar.TheVariants.{Numbered}
+use Rattle.std.specs.Prelude.{ℕ, ◌≡◌, ◌≤◌, ◌*◌, codes, List, [], ◌∷◌, ◌++◌}
+use Rattle.ef_base.specs.Texts.{Texts, HasName}
 use Rattle.ef_core.specs.declared.literal.FName.{FName}
 use Rattle.ef_core.specs.Depth.{depth}
 use Rattle.ef_core.specs.Fresh.{most_variables}
+pub use Rattle.ef_core.specs.Fresh.{variables_from}
+use Rattle.ef_core.specs.Lowered.{IsLowered}
 use Rattle.ef_core.specs.OfTable.{DefOf}
 use Rattle.ef_core.specs.Scope.{InScope}
 use Rattle.ef_core.specs.Tree.{DefTree}
 use Rattle.ef_core.specs.WellFormed.{Matches}
 use Rattle.ef_forms.specs.declared.tables.FunctionName.{FunctionName}
-use Rattle.ef_forms.specs.Built.{IsBuiltFunction, AreNarrowClauses, functions_in}
+use Rattle.ef_forms.specs.Built.{AreNarrowClauses, functions_in}
 use Rattle.ef_forms.specs.Depth.{function_depth}
-use Rattle.ef_forms.specs.OfTable.{FunctionOf}
-use Rattle.ef_forms.specs.Tree.{Tree, Trees, Clauses, FunctionTree, PlacedTree, tree, var, end, more, clause, no_clauses, count}
+use Rattle.ef_forms.specs.Tree.{Clauses, FunctionTree, PlacedTree, clause, no_clauses}
 use Rattle.ef_forms.specs.Ways.{function_faults}
 use Rattle.ef_forms.specs.Weight.{function_weight}
-use Rattle.ef_lower.specs.Lowers.{IsLowered}
+use Rattle.ef_lower.specs.Ready.{lower_words}
+use Rattle.ef_lowmod.specs.Clauses.{AreReadyClauses}
+use Rattle.ef_lowpat.specs.Guards.{HoldsWords}
+use Rattle.ef_meaning.specs.Bound.{HaveBodies}
 use Rattle.ef_meaning.specs.Lowers.{KeepDefinitions}
 
--- each clause has this number of patterns, and a body that isn't empty
-abbrev pub AreWhole : ℕ → Clauses → Type 0
-AreWhole arity no_clauses = Unit {0}
-AreWhole arity (clause p ps g body cs) = (count ps ≡ arity) × (1 ≤ count body) × AreWhole arity cs
+-- the texts that are named in what functions are lowered to
+abbrev pub function_words : List (List ℕ)
+function_words = codes "function_clause" ∷ lower_words
 
+abbrev pub HasWords : Texts → Type 0
+HasWords all = HoldsWords all function_words
+
+abbrev pub AreSome : Clauses → Type 0
+AreSome no_clauses = ⊥
+AreSome (clause p ps g body cs) = Unit {0}
+
+-- there are clauses, and no body is empty
 abbrev pub IsWhole : FunctionTree → Type 0
-IsWhole f = AreWhole f.arity f.clauses
+IsWhole f = AreSome f.clauses × HaveBodies f.clauses
 
 abbrev pub IsNarrowFunction : FunctionTree → Type 0
 IsNarrowFunction f = AreNarrowClauses f.clauses
 
--- the variables are enough for the function
+-- the variables are enough for the function, which needs at most 1,000 for each unit of its weight
 abbrev pub IsLight : FunctionTree → Type 0
-IsLight f = 500 * function_weight f ≤ most_variables
+IsLight f = 1000 * function_weight f ≤ most_variables
 
 abbrev pub HasNoFault : Texts → FunctionTree → Type 0
 HasNoFault all f = function_faults all f ≡ []
 
 pub record IsReadyFunction (all : Texts) (defined : List FunctionName) (f : FunctionTree) : Type 0 where
-  pub built : IsBuiltFunction all defined f
-  pub narrow : IsNarrowFunction f
-  pub whole : IsWhole f
+  pub name : HasName all f.name
+  pub some : AreSome f.clauses
+  pub clauses : AreReadyClauses all defined f.arity f.clauses
   pub light : IsLight f
-  pub of_table : FunctionOf all f
-  pub no_fault : HasNoFault all f
 
 abbrev pub fname_of : FunctionTree → FName
 fname_of f = record { name = f.name; arity = f.arity }
-
--- so many variables, from this number on
-abbrev pub variables_from : ℕ → ℕ → List CoreVar
-variables_from n zero = []
-variables_from n (suc k) = Numbered n ∷ variables_from (n + 1) k
 
 -- a function of this name and arity, whose parameters are the first variables, and whose body a text can say: it is in
 -- scope where these functions are, and at most 16 deep for each level of the source
@@ -83,13 +84,3 @@ pub record KeepsForm (now : Texts) (f : PlacedTree) (old new : List DefTree) : T
   pub added : List DefTree
   pub is : new ≡ old ++ added
   pub keep : KeepDefinitions now (functions_in (f ∷ [])) added
-
--- the names of those that are variables
-abbrev pub variable_names : Trees → List Name
-variable_names end = []
-variable_names (more (tree p (var n)) es) = n ∷ variable_names es
-variable_names (more e es) = variable_names es
-
-abbrev pub IsVariable : Tree → Type 0
-IsVariable (tree p (var n)) = Unit {0}
-IsVariable _ = ⊥

@@ -1,3 +1,5 @@
+pub mod Clauses
+pub mod Parameters
 pub mod Function
 pub mod Info
 pub mod Outline

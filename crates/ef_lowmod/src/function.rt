@@ -1,92 +1,114 @@
 // Functions.
-ghost use Rattle.std.specs.Prelude.{◌≡◌, ◌+◌, ◌≤◌, [], ◌∷◌, IfOk, List, ℕ, length};
+ghost use Rattle.std.specs.Prelude.{◌≡◌, ◌+◌, ◌*◌, ◌≤◌, IfOk, IfSome, List, length};
 ghost use Rattle.ef_base.specs.Texts.{AllDiffer, AllUtf8, Extends, Texts};
-ghost use Rattle.ef_base.specs.declared.name.Name.{Name};
 ghost use Rattle.ef_core.specs.declared.literal.FName.{FName};
+ghost use Rattle.ef_core.specs.Env.{NamesDiffer};
 ghost use Rattle.ef_core.specs.Everywhere.{Each};
-ghost use Rattle.ef_core.specs.Fresh.{most_variables};
-ghost use Rattle.ef_core.specs.Plain.{plain_def};
-ghost use Rattle.ef_core.specs.Readable.{readable};
-ghost use Rattle.ef_forms.specs.Built.{AreVariables};
-ghost use Rattle.ef_forms.specs.Plain.{plain, plain_all, plain_function};
-ghost use Rattle.ef_forms.specs.Tree.{tree, var};
-ghost use Rattle.ef_forms.specs.Ways.{all_names};
-ghost use Rattle.ef_lower.specs.Ready.{IsReadableBind, bound_names};
-ghost use Rattle.ef_lower.specs.Scope.{HasFunctions, HasVariables};
-ghost use Rattle.ef_lowmod.specs.Function.{IsLoweredFunction, IsReadyFunction, IsVariable, variable_names, variables_from};
-ghost use Rattle.ef_meaning.specs.Lowers.{KeepsDefinition, env_from};
+ghost use Rattle.ef_core.specs.Fresh.{DrawsAtMost, most_variables, variables_from};
+ghost use Rattle.ef_core.specs.Plain.{plain, plain_def};
+ghost use Rattle.ef_forms.specs.declared.expr.Clause.{Clause};
+ghost use Rattle.ef_forms.specs.Plain.{plain_all, plain_clauses, plain_function};
+ghost use Rattle.ef_forms.specs.Weight.{clauses_weight};
+ghost use Rattle.ef_lower.specs.Scope.{HasFunctions};
+ghost use Rattle.ef_lowmod.specs.Clauses.{AreReadyClauses, IsLoweredBody};
+ghost use Rattle.ef_lowmod.specs.Function.{AreSome, HasWords, IsLoweredFunction, IsReadyFunction};
+ghost use Rattle.ef_lowmod.specs.Parameters as p;
+ghost use Rattle.ef_meaning.specs.Lowers.{KeepsDefinition};
 
-use ef_base::{Name, Names, NoMemory};
-use ef_core::{CoreDef, CoreVar, Env, FName, Fresh};
-use ef_forms::{Expr, Function, Node, Tables};
-use ef_lower::body;
+use crate::clauses::case;
+use crate::variables::variables;
+use ef_base::{Names, NoMemory};
+use ef_core::{CoreDef, CoreExpr, CoreVar, Env, FName, Fresh};
+use ef_forms::{Clause, Expr, Function, Node, Tables};
+use ef_lower::closed_body;
 use std::alloc::Global;
 
-/// Lowers a function of one clause, whose parameters are variables.
+/// Lowers a function: one clause of different variables and `_` to its body, and others to a case of the parameters.
 pub fn lower_function(
     alloc: Global,
     names: &mut Names,
     tables: &Tables,
     function: &Function,
 ) -> Result<CoreDef, NoMemory>
-    requires { IsReadyFunction names.old tables.now.functions.items (plain_function function.now) }
+    requires words { HasWords names.old }
+    requires ready { (all : Texts) → Extends names.old all → IsReadyFunction all tables.now.functions.items (plain_function function.now) }
     ensures kept { Extends names.old names.new }
     ensures differ { AllDiffer names.old → AllDiffer names.new }
     ensures utf8 { AllUtf8 names.old → AllUtf8 names.new }
-    ensures lowered { IfOk result (λ d. (fs : List FName) → HasFunctions names.old tables.now.functions.items fs → IsLoweredFunction names.new fs (plain_function function.now) (plain_def d)) }
+    ensures lowered { IfOk result (λ d. (fs : List FName) → HasFunctions names.new tables.now.functions.items fs → IsLoweredFunction names.new fs (plain_function function.now) (plain_def d)) }
     ensures means { IfOk result (λ d. KeepsDefinition names.new (plain_function function.now) (plain_def d)) }
 {
-    let clause = &function.clauses[0];
     let mut fresh = Fresh::new();
-    let mut env = Env::new(alloc);
-    let params = parameters(alloc, &clause.patterns, &mut fresh, &mut env)?;
-    let lowered = body(alloc, names, tables, &mut fresh, &clause.body, &env)?;
+    let params = variables(alloc, &mut fresh, function.arity as usize)?;
+    let body = body(alloc, names, tables, &mut fresh, &function.clauses, &params)?;
     Ok(CoreDef {
         name: FName {
             name: function.name,
             arity: function.arity,
         },
         params,
-        body: lowered.core,
+        body,
     })
 }
 
-// A variable for each pattern, which is a variable too.
-fn parameters(
+// The body behind the parameters, which are the variables that were drawn so far.
+fn body(
     alloc: Global,
-    patterns: &[Expr],
+    names: &mut Names,
+    tables: &Tables,
     fresh: &mut Fresh,
-    env: &mut Env,
-) -> Result<Vec<CoreVar>, NoMemory>
-    requires variables { (parameters : List Name) × AreVariables (plain_all patterns.now) parameters }
-    requires enough { fresh.old + length patterns.now ≤ most_variables }
-    requires no_names { env.old ≡ [] }
-    ensures drawn { IfOk result (λ vs. fresh.new ≡ fresh.old + length patterns.now) }
-    ensures variables { IfOk result (λ vs. vs.items ≡ variables_from fresh.old (length patterns.now)) }
-    ensures bound { IfOk result (λ vs. (y : ℕ) → bound_names env.new y ≡ all_names (plain_all patterns.now) y) }
-    ensures readable { IfOk result (λ vs. (texts : Texts) → Each (readable texts).variable vs.items × Each (IsReadableBind texts) env.new) }
-    ensures within { IfOk result (λ vs. HasVariables env.new vs.items) }
-    ensures named { IfOk result (λ vs. env.new ≡ env_from fresh.old (variable_names (plain_all patterns.now))) }
+    clauses: &[Clause],
+    params: &[CoreVar],
+) -> Result<CoreExpr, NoMemory>
+    requires words { HasWords names.old }
+    requires some { AreSome (plain_clauses clauses.now) }
+    requires ready { (all : Texts) → Extends names.old all → AreReadyClauses all tables.now.functions.items fresh.old (plain_clauses clauses.now) }
+    requires params { params.now ≡ variables_from 0 fresh.old }
+    requires enough { fresh.old + 999 * clauses_weight (plain_clauses clauses.now) ≤ most_variables }
+    ensures kept { Extends names.old names.new }
+    ensures differ { AllDiffer names.old → AllDiffer names.new }
+    ensures utf8 { AllUtf8 names.old → AllUtf8 names.new }
+    ensures lowered { IfOk result (λ e. IsLoweredBody names.new tables.now.functions.items (plain_clauses clauses.now) params.now (plain e)) }
+    ensures drawn { IfOk result (λ e. DrawsAtMost (999 * clauses_weight (plain_clauses clauses.now)) fresh.old fresh.new) }
 {
-    let mut params = Vec::new(alloc);
-    for pattern in patterns {
-        let name = variable(pattern);
-        let Some(var) = fresh.next() else {
-            unreachable!()
-        };
-        env.push(name, var)?;
-        params.push(var)?;
+    if let Some(env) = own_names(alloc, clauses, params)? {
+        return Ok(closed_body(alloc, names, tables, fresh, &clauses[0].body, env)?);
     }
-    Ok(params)
+    Ok(case(alloc, names, tables, fresh, clauses, params)?)
 }
 
-// The name of a variable.
-fn variable(pattern: &Expr) -> Name
-    requires { IsVariable (plain pattern.now) }
-    ensures { plain pattern.now ≡ tree pattern.now.place (var result) }
+// The names of the parameters, where they are those of the one clause.
+fn own_names(alloc: Global, clauses: &[Clause], params: &[CoreVar]) -> Result<Option<Env>, NoMemory>
+    requires { Each (λ (c : Clause). length c.patterns.items ≡ length params.now) clauses.now }
+    ensures { IfOk result (λ o. IfSome o (p.HasOwnNames clauses.now params.now)) }
 {
-    let Node::Var(name) = pattern.node else {
-        unreachable!()
-    };
-    name
+    match clauses {
+        [clause] => Ok(names_of(alloc, &clause.patterns, params)?),
+        _ => Ok(None),
+    }
+}
+
+/// The names of patterns that are different variables or `_`, each with the parameter at its place.
+pub fn names_of(
+    alloc: Global,
+    patterns: &[Expr],
+    params: &[CoreVar],
+) -> Result<Option<Env>, NoMemory>
+    requires { length patterns.now ≡ length params.now }
+    ensures { IfOk result (λ o. IfSome o (λ env. p.AreParameters (plain_all patterns.now) × (env ≡ p.own_names (plain_all patterns.now) params.now) × NamesDiffer env)) }
+{
+    let mut env = Env::new(alloc);
+    for (place, pattern) in patterns.iter().enumerate() {
+        match &pattern.node {
+            Node::Var(name) => {
+                let None = env.var_of(*name) else {
+                    return Ok(None);
+                };
+                env.push(*name, params[place])?;
+            }
+            Node::Any => {}
+            _ => return Ok(None),
+        }
+    }
+    Ok(Some(env))
 }

@@ -1,11 +1,14 @@
 //! Lowers a module to Core.
 #![tactic(auto)]
 
+mod clauses;
 mod exports;
 mod function;
 mod info;
+mod last;
 mod module;
 #[cfg(test)]
 mod tests;
+mod variables;
 
 pub use module::lower;

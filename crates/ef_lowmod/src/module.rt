@@ -10,7 +10,7 @@ ghost use Rattle.ef_forms.specs.Built.{Each, IsBuilt, defined_in, exports_in, fu
 ghost use Rattle.ef_forms.specs.OfTable.{ModuleOf};
 ghost use Rattle.ef_forms.specs.Plain.{plain_module, plain_placed};
 ghost use Rattle.ef_lower.specs.Scope.{HasFunctions};
-ghost use Rattle.ef_lowmod.specs.Function.{AreLowered, HasNoFault, IsLight, IsNarrowFunction, IsLoweredForm, IsReadyFunction, IsWhole, KeepsForm};
+ghost use Rattle.ef_lowmod.specs.Function.{AreLowered, HasNoFault, HasWords, IsLight, IsNarrowFunction, IsLoweredForm, IsReadyFunction, IsWhole, KeepsForm};
 ghost use Rattle.ef_lowmod.specs.Outline.{Outline};
 ghost use Rattle.ef_meaning.specs.Lowers.{KeepDefinitions};
 ghost use Rattle.ef_meaning.specs.Runs.{KeepsMeaning};
@@ -45,6 +45,7 @@ pub fn lower(
     ensures utf8 { OnOk result (AllUtf8 names.new) }
     ensures means { IfOk result (λ m. (all : Texts) → Extends names.new all → KeepsMeaning all (plain_module «module».now) (core.plain_module m)) }
 {
+    keep_words(names)?;
     let fixed = fixed_names(names)?;
     let exports = exports(alloc, fixed, &tables.exports)?;
     let mut defs = lower_functions(alloc, names, tables, &module.forms)?;
@@ -58,6 +59,14 @@ pub fn lower(
     })
 }
 
+/// The table has the words that lowered functions name.
+pub fn keep_words(names: &mut Names) -> Result<(), NoMemory>
+    ensures words { OnOk result (HasWords names.new) }
+    ensures kept { Extends names.old names.new }
+{
+    Ok(names.keep_words()?)
+}
+
 // The functions among forms, in order.
 fn lower_functions(
     alloc: Global,
@@ -65,7 +74,8 @@ fn lower_functions(
     tables: &Tables,
     forms: &[PlacedForm],
 ) -> Result<Vec<CoreDef>, NoMemory>
-    requires { (all : Texts) → Extends names.old all → Each (IsReadyFunction all tables.now.functions.items) (functions_in (map plain_placed forms.now)) }
+    requires words { HasWords names.old }
+    requires ready { (all : Texts) → Extends names.old all → Each (IsReadyFunction all tables.now.functions.items) (functions_in (map plain_placed forms.now)) }
     ensures kept { Extends names.old names.new }
     ensures differ { AllDiffer names.old → AllDiffer names.new }
     ensures utf8 { AllUtf8 names.old → AllUtf8 names.new }
@@ -87,11 +97,12 @@ fn lower_form(
     placed: &PlacedForm,
     defs: &mut Vec<CoreDef>,
 ) -> Result<(), NoMemory>
-    requires { Each (IsReadyFunction names.old tables.now.functions.items) (functions_in (plain_placed placed.now ∷ [])) }
+    requires words { HasWords names.old }
+    requires ready { (all : Texts) → Extends names.old all → Each (IsReadyFunction all tables.now.functions.items) (functions_in (plain_placed placed.now ∷ [])) }
     ensures kept { Extends names.old names.new }
     ensures differ { AllDiffer names.old → AllDiffer names.new }
     ensures utf8 { AllUtf8 names.old → AllUtf8 names.new }
-    ensures lowered { OnOk result ((fs : List FName) → HasFunctions names.old tables.now.functions.items fs → IsLoweredForm names.new fs (plain_placed placed.now) (map plain_def defs.old.items) (map plain_def defs.new.items)) }
+    ensures lowered { OnOk result ((fs : List FName) → HasFunctions names.new tables.now.functions.items fs → IsLoweredForm names.new fs (plain_placed placed.now) (map plain_def defs.old.items) (map plain_def defs.new.items)) }
     ensures means { OnOk result (KeepsForm names.new (plain_placed placed.now) (map plain_def defs.old.items) (map plain_def defs.new.items)) }
 {
     if let Form::FunctionOf(function) = &placed.form {

@@ -1,12 +1,16 @@
-// Exports, and a module without forms.
+// Exports, a module without forms, and the parts of functions.
+ghost use Rattle.std.specs.Prelude.{◌≤◌};
 ghost use Rattle.ef_base.specs.Texts.{HasName};
 
 use crate::exports::exports;
+use crate::function::names_of;
 use crate::info::fixed_names;
+use crate::last::last_clause;
 use crate::lower;
-use ef_base::{FaultList, Name, Names};
-use ef_core::{CoreExpr, CoreModule, FName};
-use ef_forms::{FunctionName, Module, Tables};
+use crate::module::keep_words;
+use ef_base::{FaultList, Name, Names, Place};
+use ef_core::{CoreClause, CoreExpr, CoreModule, CoreVar, FName, Fresh};
+use ef_forms::{Expr, FunctionName, Module, Node, Tables};
 use std::alloc::Global;
 use std::test::Fail;
 
@@ -64,5 +68,58 @@ fn a_module_without_forms(rt: HostRuntime) -> Result<(), Fail> {
         assert!(rt; def.name.arity as usize == params && def.params.len() == params);
         assert!(rt; matches!(&def.body, CoreExpr::Call { args: given, .. } if given.len() == args));
     }
+    Ok(())
+}
+
+fn expr(node: Node) -> Expr {
+    let place = Place {
+        file: 0,
+        line: 1,
+        column: 1,
+    };
+    Expr { place, node }
+}
+
+// How many names two parameters have, if they need no case.
+fn names(alloc: Global, left: Node, right: Node) -> Result<Option<usize>, Fail> {
+    let patterns = vec![in alloc; expr(left), expr(right)]?;
+    let params = vec![in alloc; CoreVar::Numbered(0), CoreVar::Numbered(1)]?;
+    let env = names_of(alloc, &patterns, &params).ok().ok_or("memory")?;
+    Ok(env.map(|env| env.len()))
+}
+
+#[test]
+fn different_variables_and_wildcards_need_no_case(rt: HostRuntime) -> Result<(), Fail> {
+    let alloc = rt.alloc();
+    let x = Name { index: 1 };
+    let y = Name { index: 2 };
+    assert_eq!(rt; names(alloc, Node::Var(x), Node::Var(y))?, Some(2));
+    assert_eq!(rt; names(alloc, Node::Any, Node::Var(x))?, Some(1));
+    assert_eq!(rt; names(alloc, Node::Any, Node::Any)?, Some(0));
+    assert_eq!(rt; names(alloc, Node::Var(x), Node::Var(x))?, None);
+    assert_eq!(rt; names(alloc, Node::Var(x), Node::Int(1))?, None);
+    let pair = Node::Tuple(vec![in alloc; expr(Node::Any)]?);
+    assert_eq!(rt; names(alloc, pair, Node::Var(x))?, None);
+    Ok(())
+}
+
+// The last clause for so many values.
+fn last(alloc: Global, count: usize) -> Result<CoreClause, Fail>
+    requires { count ≤ 2 }
+{
+    let mut names = Names::new(alloc);
+    keep_words(&mut names).ok().ok_or("memory")?;
+    let mut fresh = Fresh::new();
+    let clause = last_clause(alloc, &names, &mut fresh, count).ok();
+    Ok(clause.ok_or("memory")?)
+}
+
+#[test]
+fn the_last_clause_takes_all_values(rt: HostRuntime) -> Result<(), Fail> {
+    let alloc = rt.alloc();
+    let two = last(alloc, 2)?;
+    assert!(rt; two.pats.len() == 2 && matches!(two.body, CoreExpr::Lets { .. }));
+    let none = last(alloc, 0)?;
+    assert!(rt; none.pats.is_empty() && matches!(none.body, CoreExpr::Primop { .. }));
     Ok(())
 }

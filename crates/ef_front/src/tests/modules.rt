@@ -116,6 +116,59 @@ call 'g':'h'(_0, _1, _2)
 end
 ",
     ),
+    // Lists, tuples and matches.
+    (
+        "-module(a).\n-export([f/0]).\nf() -> [].\n",
+        "module 'a' ['f'/0, 'module_info'/0, 'module_info'/1]
+attributes []
+'f'/0 = fun () -> []
+'module_info'/0 = fun () -> call 'erlang':'get_module_info'('a')
+'module_info'/1 = fun (_0) -> call 'erlang':'get_module_info'('a', _0)
+end
+",
+    ),
+    (
+        "-module(a).\n-export([f/1]).\nf(_) -> {}.\n",
+        "module 'a' ['f'/1, 'module_info'/0, 'module_info'/1]
+attributes []
+'f'/1 = fun (_0) -> {}
+'module_info'/0 = fun () -> call 'erlang':'get_module_info'('a')
+'module_info'/1 = fun (_0) -> call 'erlang':'get_module_info'('a', _0)
+end
+",
+    ),
+    (
+        "-module(a).\n-export([f/1]).\nf(X) -> [X, a | X].\n",
+        "module 'a' ['f'/1, 'module_info'/0, 'module_info'/1]
+attributes []
+'f'/1 = fun (_0) -> [_0, 'a' | _0]
+'module_info'/0 = fun () -> call 'erlang':'get_module_info'('a')
+'module_info'/1 = fun (_0) -> call 'erlang':'get_module_info'('a', _0)
+end
+",
+    ),
+    (
+        "-module(a).\n-export([f/1]).\nf(X) -> {X, [a, X], {b, 1}}.\n",
+        "module 'a' ['f'/1, 'module_info'/0, 'module_info'/1]
+attributes []
+'f'/1 = fun (_0) -> let _1 = ['a', _0] in
+{_0, _1, {'b', 1}}
+'module_info'/0 = fun () -> call 'erlang':'get_module_info'('a')
+'module_info'/1 = fun (_0) -> call 'erlang':'get_module_info'('a', _0)
+end
+",
+    ),
+    (
+        "-module(a).\n-export([f/1]).\nf(X) -> Y = g:h(X), Y.\n",
+        "module 'a' ['f'/1, 'module_info'/0, 'module_info'/1]
+attributes []
+'f'/1 = fun (_0) -> let _1 = call 'g':'h'(_0) in
+_1
+'module_info'/0 = fun () -> call 'erlang':'get_module_info'('a')
+'module_info'/1 = fun (_0) -> call 'erlang':'get_module_info'('a', _0)
+end
+",
+    ),
     // Quoted atoms, letters of Latin-1, numbers in other bases, and comments.
     (
         "% -*- coding: utf-8 -*-\n-module('a').\n-export([f/1, '_'/0]). % f(X) -> Y.\n%% 'a\nf(\u{c4}) -> g:'hello world'(\u{c4}, \u{e4}, '\\x{20ac}', 16#fF, 1_000,\n  % $\n  2#1_01, 'f', '\\'').\n'_'() -> '\\^a'. % the end",
@@ -146,9 +199,40 @@ fn texts(rt: HostRuntime) -> Result<(), Fail> {
     Ok(())
 }
 
+// Sources without faults.
+const FAULTLESS: &[&str] = &[
+    "\0-module\0(\u{a0}r).\t-export([f/1]).\x0b\u{80}f(X) -> X.",
+    "-module(r).\n-export([f/0]).\nf() -> module_info(), module_info(f).\n",
+    "-module(r).\n-export([f/0]).\nf() -> 170141183460469231731687303715884105727.\n",
+    // Patterns.
+    "-module(r).\n-export([f/1]).\nf(_) -> a.\n",
+    "-module(r).\n-export([f/2]).\nf(X, X) -> X.\n",
+    "-module(r).\n-export([f/1]).\nf({X,X}) -> X.\n",
+    "-module(r).\n-export([f/2]).\nf({A, {B, A}}, B) -> {A, B}.\n",
+    "-module(r).\n-export([f/1]).\nf([[_], [X, 1 | _] | {a, X}]) -> X.\n",
+    // Several clauses.
+    "-module(r).\n-export([f/1]).\nf([]) -> z; f([X]) -> X; f([X, X | T]) -> {X, T}; f([_ | T]) -> f(T).\n",
+    // Matches.
+    "-module(r).\n-export([f/0]).\nf() -> {X = 1, X = 2}.\n",
+    "-module(r).\n-export([f/1]).\nf(X) -> {Y, Z} = g:h(X), Y = Z, {Z, Y}.\n",
+    "-module(r).\n-export([f/1]).\nf(X) -> {X = 1, Y = X}.\n",
+    "-module(r).\n-export([f/1]).\nf(X) -> 1 = f(X).\n",
+    "-module(r).\n-export([f/1]).\nf(X) -> _ = Y = [_ | Z] = X, {Y, Z}.\n",
+    "-module(r).\n-export([f/1]).\nf(X) -> g:h(X).\n",
+];
+
+#[test]
+fn faultless(rt: HostRuntime) -> Result<(), Fail> {
+    let alloc = rt.alloc();
+    for source in FAULTLESS {
+        check(&rt, alloc, bytes(alloc, source)?, "")?;
+    }
+    Ok(())
+}
+
 const NOT_BUILT: &str = "r.erl:1:1: E500: not built\n";
 
-// Modules, and the lines of their faults; without a line, the text is written.
+// Modules, and the lines of their faults.
 const MODULES: &[(&str, &str)] = &[
     (
         "-module(r).\n-export([f/1]).\nf(X) -> Y.\n",
@@ -167,25 +251,73 @@ const MODULES: &[(&str, &str)] = &[
         "r.erl:3:9: E451: variable Z is unbound\nr.erl:5:3: E451: variable Y is unbound\n",
     ),
     (
-        "\0-module\0(\u{a0}r).\t-export([f/1]).\x0b\u{80}f(X) -> X.",
-        "",
+        "-module(r).\n-export([f/0]).\nf() -> [X | Y].\n",
+        "r.erl:3:9: E451: variable X is unbound\nr.erl:3:13: E451: variable Y is unbound\n",
+    ),
+    // A match binds behind its expression, and not beside it.
+    (
+        "-module(r).\n-export([f/0]).\nf() -> {X = 1, X}.\n",
+        "r.erl:3:16: E451: variable X is unbound\n",
     ),
     (
-        "-module(r).\n-export([f/0]).\nf() -> module_info(), module_info(f).\n",
-        "",
+        "-module(r).\n-export([f/1]).\nf(X) -> {Y, Y = X}.\n",
+        "r.erl:3:10: E451: variable Y is unbound\n",
     ),
     (
-        "-module(r).\n-export([f/0]).\nf() -> 170141183460469231731687303715884105727.\n",
-        "",
+        "-module(r).\n-export([f/0]).\nf() -> X = X.\n",
+        "r.erl:3:12: E451: variable X is unbound\n",
     ),
-    ("-module(r).\n-export([f/1]).\nf(X) -> {X}.\n", NOT_BUILT),
+    // A clause has its own names.
+    (
+        "-module(r).\n-export([f/1]).\nf(X) -> X; f(a) -> X.\n",
+        "r.erl:3:20: E451: variable X is unbound\n",
+    ),
+    // `_` is never bound.
+    (
+        "-module(r).\n-export([f/0]).\nf() -> _.\n",
+        "r.erl:3:8: E451: variable _ is unbound\n",
+    ),
+    (
+        "-module(r).\n-export([f/2]).\nf(_, _) -> _.\n",
+        "r.erl:3:12: E451: variable _ is unbound\n",
+    ),
+    (
+        "-module(r).\n-export([f/1]).\nf(X) -> {_} = [_ | X].\n",
+        "r.erl:3:16: E451: variable _ is unbound\n",
+    ),
+    // What is not built.
+    (
+        "-module(r).\n-export([f/1]).\nf(X) -> case X of 1 -> 2 end.\n",
+        NOT_BUILT,
+    ),
+    (
+        "-module(r).\n-export([f/1]).\nf(X) when X > 1 -> X.\n",
+        NOT_BUILT,
+    ),
+    ("-module(r).\n-export([f/1]).\nf(X = Y) -> X.\n", NOT_BUILT),
+    ("-module(r).\n-export([f/1]).\nf(f(X)) -> X.\n", NOT_BUILT),
+    (
+        "-module(r).\n-export([f/1]).\nf(X) -> f(X) = 1.\n",
+        NOT_BUILT,
+    ),
+    ("-module(r).\n-export([f/1]).\nf(X) -> X + 1.\n", NOT_BUILT),
+    (
+        "-module(r).\n-export([f/1]).\nf(X) -> [Y || Y <- X].\n",
+        NOT_BUILT,
+    ),
+    ("-module(r).\n-export([f/1]).\nf(X) -> [| X].\n", NOT_BUILT),
+    (
+        "-module(r).\n-export([f/0]).\nf() -> a; g() -> b.\n",
+        NOT_BUILT,
+    ),
+    (
+        "-module(r).\n-export([f/0]).\nf() -> a; f(X) -> X.\n",
+        NOT_BUILT,
+    ),
     ("-module(r).\n-export([f/0]).\nf() -> #{}.\n", NOT_BUILT),
     ("-module(r).\n-export([f/0]).\nf() -> $a.\n", NOT_BUILT),
     ("-module(r).\n-export([f/0]).\nf() -> \"a\".\n", NOT_BUILT),
-    ("-module(r).\n-export([f/1]).\nf(_) -> a.\n", NOT_BUILT),
-    ("-module(r).\n-export([f/0]).\nf() -> _.\n", NOT_BUILT),
     (".", NOT_BUILT),
-    ("-module(r).\n-export([f/2]).\nf(X, X) -> X.\n", NOT_BUILT),
     ("-module(r).\n-export([f/0]).\nf() -> k().\n", NOT_BUILT),
     ("-module(r).\n-export([f/0, f/0]).\nf() -> a.\n", NOT_BUILT),
     (
@@ -212,25 +344,50 @@ fn faults(rt: HostRuntime) -> Result<(), Fail> {
     Ok(())
 }
 
-// Calls inside calls: a variable has nesting 1, and a call without arguments 2.
+// What stands round a variable, which has nesting 1, or round a call without arguments, which has 2; and how often.
+const NESTED: &[(&str, &str, &str, usize)] = &[
+    ("k(", "X", ")", 127),
+    ("k(", "k()", ")", 126),
+    ("[", "X", "]", 127),
+    ("[a | ", "X", "]", 127),
+    ("{", "X", "}", 127),
+    ("X = ", "X", "", 127),
+];
+
 #[test]
 fn nesting(rt: HostRuntime) -> Result<(), Fail> {
     let alloc = rt.alloc();
-    check(&rt, alloc, nested(alloc, "X", 127)?, "")?;
-    check(&rt, alloc, nested(alloc, "X", 128)?, NOT_BUILT)?;
-    check(&rt, alloc, nested(alloc, "k()", 126)?, "")?;
-    check(&rt, alloc, nested(alloc, "k()", 127)?, NOT_BUILT)
+    for (before, inner, behind, most) in NESTED {
+        check(&rt, alloc, nested(alloc, before, inner, behind, *most)?, "")?;
+    }
+    Ok(())
 }
 
-fn nested(alloc: Global, inner: &str, calls: usize) -> Result<Bytes, Fail> {
+#[test]
+fn too_deep(rt: HostRuntime) -> Result<(), Fail> {
+    let alloc = rt.alloc();
+    for (before, inner, behind, most) in NESTED {
+        let source = nested(alloc, before, inner, behind, *most + 1)?;
+        check(&rt, alloc, source, NOT_BUILT)?;
+    }
+    Ok(())
+}
+
+fn nested(
+    alloc: Global,
+    before: &str,
+    inner: &str,
+    behind: &str,
+    times: usize,
+) -> Result<Bytes, Fail> {
     let mut text = Vec::new(alloc);
     text.extend_from_slice(b"-module(r).\n-export([f/1]).\nk() -> a.\nk(X) -> X.\nf(X) -> ")?;
-    for _ in 0..calls {
-        text.extend_from_slice(b"k(")?;
+    for _ in 0..times {
+        text.extend_from_slice(before.as_bytes())?;
     }
     text.extend_from_slice(inner.as_bytes())?;
-    for _ in 0..calls {
-        text.push(b')')?;
+    for _ in 0..times {
+        text.extend_from_slice(behind.as_bytes())?;
     }
     text.push(b'.')?;
     Ok(Bytes::from_vec(text))

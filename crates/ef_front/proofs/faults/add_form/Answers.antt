@@ -1,4 +1,4 @@
-use Rattle.std.proofs.Common.{◌≡◌, ◌∙◌, ◌++◌, ap, sym}
+use Rattle.std.proofs.Common.{◌∙◌, ◌++◌, ap, sym}
 use Rattle.ef_base.specs.Faults.{set_of}
 use Rattle.ef_forms.specs.Plain.{plain_form, plain_function}
 use Rattle.ef_forms.specs.Ways.{function_faults}

@@ -1,11 +1,8 @@
-use Rattle.std.proofs.Common.{◌≡◌, ◌∙◌, ap, sym, subst, true, false}
+use Rattle.std.proofs.Common.{◌∙◌, ap, sym}
 use Rattle.std.specs.Prelude.{◌==◌}
 use Rattle.ef_base.specs.Laws.{extends_same}
-use Rattle.ef_token.specs.TokenForm.{AllTokensOf}
-use Rattle.ef_forms.specs.Built.{Each}
 use Rattle.ef_module.specs.Read.{lists}
-use Rattle.ef_front.specs.Source.{IsNamed}
-use Rattle.ef_front.proofs.Chain.{blank_compiled, faulty_compiled, if_ok, none_differ, spell_light, text_compiled, unnamed_compiled}
+use Rattle.ef_front.proofs.Chain.{blank_compiled, faulty_compiled, if_ok, none_differ, spell_light, text_compiled}
 use Rattle.ef_front.proofs.Taken.{empty_list, scanned_ends, scanned_named, some_list, whole}
 use Rattle.ef_front.proofs.source.compile_text.Goals as goal
 
@@ -19,25 +16,6 @@ returns-then-not-is_empty c =
     faulty_compiled c.scan.new.names c.args.source.now c.in_ok-scanned.scanned.items c.in_ok-taken.taken.faults (lists c.in_ok-taken.taken.forms.items)
     (c.in_ok-scanned.ensures.forms c.scan.new.names (extends_same c.scan.new.names)) c.in_ok-taken.ensures
     (λ none. some_list c.faults.result.now c.is_empty-2.result c.is_empty-2.ensures c.if-not-is_empty.true (c.faults.ensures.same ∙ none))
-
-pub are_named-requires : goal.are_named-requires
-are_named-requires c =
-    let is = whole c.scan.new.names c.args.source.now c.in_ok-scanned.scanned.items c.in_ok-taken.taken.faults (lists c.in_ok-taken.taken.forms.items)
-    (c.in_ok-scanned.ensures.forms c.scan.new.names (extends_same c.scan.new.names)) c.in_ok-taken.ensures
-    (sym c.faults.ensures.same ∙ empty_list c.faults.result.now c.is_empty-2.result c.is_empty-2.ensures c.if-not-is_empty.false)
-    (some_list c.in_ok-scanned.scanned.items c.is_empty.result (c.is_empty.ensures ∙ ap (λ n. n == 0) c.in_ok-scanned.scanned.ok.0) c.if-is_empty.false) in
-    subst (λ vs. AllTokensOf c.scan.new.names (lists vs)) (sym c.deref.ensures.value) (scanned_named c.scan.new.names c.args.source.now (lists c.in_ok-taken.taken.forms.items) is.scans)
-
-pub returns-then-not-are_named : goal.returns-then-not-are_named
-returns-then-not-are_named c =
-    let is = whole c.scan.new.names c.args.source.now c.in_ok-scanned.scanned.items c.in_ok-taken.taken.faults (lists c.in_ok-taken.taken.forms.items)
-    (c.in_ok-scanned.ensures.forms c.scan.new.names (extends_same c.scan.new.names)) c.in_ok-taken.ensures
-    (sym c.faults.ensures.same ∙ empty_list c.faults.result.now c.is_empty-2.result c.is_empty-2.ensures c.if-not-is_empty.false)
-    (some_list c.in_ok-scanned.scanned.items c.is_empty.result (c.is_empty.ensures ∙ ap (λ n. n == 0) c.in_ok-scanned.scanned.ok.0) c.if-is_empty.false) in
-    let differ = c.in_ok-scanned.ensures.differ (none_differ c.new-names.result c.new-names.ensures) in
-    unnamed_compiled c.scan.new.names c.args.source.now (lists c.in_ok-taken.taken.forms.items) c.in_ok-not_built.field-0 differ is.some is.scans
-    (λ named. let bad : false ≡ true = sym c.if-not-are_named.true ∙ c.are_named.ensures.1 (subst (λ vs. Each (Each (IsNamed c.scan.new.names)) (lists vs)) (sym c.deref.ensures.value) named) in cc)
-    c.in_ok-not_built.ensures
 
 pub compile_forms-requires-clause-ends : goal.compile_forms-requires-clause-ends
 compile_forms-requires-clause-ends c =
@@ -70,7 +48,6 @@ returns c =
     (sym c.faults.ensures.same ∙ empty_list c.faults.result.now c.is_empty-2.result c.is_empty-2.ensures c.if-not-is_empty.false)
     (some_list c.in_ok-scanned.scanned.items c.is_empty.result (c.is_empty.ensures ∙ ap (λ n. n == 0) c.in_ok-scanned.scanned.ok.0) c.if-is_empty.false) in
     let differ = c.in_ok-scanned.ensures.differ (none_differ c.new-names.result c.new-names.ensures) in
-    let named = subst (λ vs. Each (Each (IsNamed c.scan.new.names)) (lists vs)) c.deref.ensures.value (c.are_named.ensures.0 c.if-not-are_named.false) in
     if_ok c.compile_forms.result _ _
-    (λ r made. text_compiled c.scan.new.names c.args.source.now (lists c.in_ok-taken.taken.forms.items) r differ is.some is.scans named made)
+    (λ r made. text_compiled c.scan.new.names c.args.source.now (lists c.in_ok-taken.taken.forms.items) r differ is.some is.scans made)
     c.compile_forms.ensures

@@ -1,6 +1,7 @@
 #!/usr/bin/env bash
-# Has the compiler of Erlang/OTP take the text of each example, and runs one function of it.
-# It is no part of the gate. Where `erlc` is missing it says so and ends well.
+# Has the compiler of Erlang/OTP take the texts of examples, and runs one function of each.
+# It takes no text in which a match or a function can fail: it wants the reason's tuple written inside `match_fail`, where
+# let form has a variable. So `pairs.erl` is not among them. It is no part of the gate. Where `erlc` is missing it says so and ends well.
 set -eu
 cd "$(dirname "$0")/../.."
 

@@ -1,5 +1,5 @@
 -- What is held in lists of names and variables.
-use Rattle.std.proofs.Common.{◌≡◌, ◌<◌, ℕ, zero, suc, Bool, true, false, ◌==◌, if◌then◌else◌, cond, List, [], ◌∷◌, ◌++◌, length, get_or, take, map, Option, Some, None, refl, sym, ap, ◌∙◌, subst, nat_eq, arith}
+use Rattle.std.proofs.Common.{◌≡◌, ◌<◌, ℕ, zero, suc, Bool, true, false, ◌==◌, if◌then◌else◌, cond, List, [], ◌∷◌, ◌++◌, length, get_or, take, drop, map, Option, Some, None, refl, sym, ap, ◌∙◌, subst, nat_eq, arith}
 use Rattle.std.proofs.lemmas.Bool.Decides.{nat_tests}
 use Rattle.std.proofs.lemmas.List.{map-append}
 use Rattle.std.specs.Map.{lookup}
@@ -78,3 +78,29 @@ pub held_before_at : (taken bs xs : List Bind) (i : ℕ) (d : Bind) → NamesDif
 held_before_at taken bs xs i d differ same is small =
     subst (λ l. held taken (get_or l i d).name ≡ None) (sym same)
     (subst (λ l. held l (get_or xs i d).name ≡ None) (sym is) (held_before xs i d differ (subst (λ l. i < length l) same small)))
+
+-- ---- a front part, and what is behind it
+
+take_zero : {A : Type 0} (xs : List A) → take 0 xs ≡ []
+take_zero [] = refl
+take_zero (x ∷ xs) = refl
+
+none_taken : (n : ℕ) (bs : List Bind) (x : Name) → held bs x ≡ None → held (take n bs) x ≡ None
+none_taken zero bs x none = ap (λ l. held l x) (take_zero bs)
+none_taken (suc n) [] x none = refl
+none_taken (suc n) (b ∷ bs) x none = by (b.name.index == x.index) none (λ h. none_taken n bs x h)
+  where
+    by : (t : Bool) → (if t then Some b.var else held bs x) ≡ None → (held bs x ≡ None → held (take n bs) x ≡ None) → (if t then Some b.var else held (take n bs) x) ≡ None
+    by true h rest = absurd cc
+    by false h rest = rest h
+
+pub differ_taken : (n : ℕ) (bs : List Bind) → NamesDiffer bs → NamesDiffer (take n bs)
+differ_taken zero bs differ = subst NamesDiffer (sym (take_zero bs)) tt
+differ_taken (suc n) [] differ = tt
+differ_taken (suc n) (b ∷ bs) differ = (none_taken n bs b.name differ.0, differ_taken n bs differ.1)
+
+pub differ_dropped : (n : ℕ) (bs : List Bind) → NamesDiffer bs → NamesDiffer (drop n bs)
+differ_dropped zero [] differ = tt
+differ_dropped zero (b ∷ bs) differ = differ
+differ_dropped (suc n) [] differ = tt
+differ_dropped (suc n) (b ∷ bs) differ = differ_dropped n bs differ.1

@@ -1,5 +1,5 @@
 // Which variable holds the value of a name.
-ghost use Rattle.std.specs.Prelude.{◌≡◌, ◌++◌, [], ◌∷◌, None, IfOk, OnOk, OnErr, drop, length};
+ghost use Rattle.std.specs.Prelude.{◌≡◌, ◌++◌, [], ◌∷◌, ◌≤◌, None, IfOk, OnOk, OnErr, drop, length, take};
 ghost use Rattle.ef_core.specs.Env.{NamesDiffer, bind, held};
 
 use crate::CoreVar;
@@ -82,6 +82,20 @@ impl Env {
             binds.push(Bind { name, var: *var })?;
         }
         Ok(binds)
+    }
+
+    /// Takes the names off from this place on. They are answered as an environment of their own.
+    pub fn split_off(&mut self, start: usize) -> Result<Env, NoMemory>
+        requires { start ≤ length self.old }
+        ensures kept { OnOk result (self.new ≡ take start self.old) }
+        ensures tail { IfOk result (λ e. e ≡ drop start self.old) }
+        ensures differ { NamesDiffer self.new }
+        ensures tail_differs { IfOk result NamesDiffer }
+        ensures all_differ { NamesDiffer self.old }
+        ensures err { OnErr result (self.new ≡ self.old) }
+    {
+        let vars = self.vars.split_off(start)?;
+        Ok(Env { vars })
     }
 
     /// The same names, with the same variables.

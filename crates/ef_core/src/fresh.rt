@@ -30,6 +30,13 @@ impl Fresh {
         Fresh { drawn: 0 }
     }
 
+    /// A source that goes on from here by itself: it draws the same variables.
+    pub fn copy(&self) -> Fresh
+        ensures { result ≡ self.now }
+    {
+        Fresh { drawn: self.drawn }
+    }
+
     /// The next variable; none once 2^32 - 1 were drawn.
     pub fn next(&mut self) -> Option<CoreVar>
         ensures { Draws self.old self.new result }

@@ -57,6 +57,36 @@ fn the_oldest_variable_of_a_name(rt: HostRuntime) -> Result<(), Fail> {
     Ok(())
 }
 
+#[test]
+fn names_are_taken_off_from_a_place_on(rt: HostRuntime) -> Result<(), Fail> {
+    let mut env = Env::new(rt.alloc());
+    for (index, number) in [(0, 0), (1, 1), (2, 2), (3, 3)] {
+        let name = name(index);
+        if env.var_of(name).is_none() {
+            env.push(name, var(number)).ok().ok_or("memory")?;
+        }
+    }
+    if env.len() < 3 {
+        return Err("too few".into());
+    }
+    let last = env.split_off(3).ok().ok_or("memory")?;
+    assert!(rt; env.len() == 3 && last.len() == 1);
+    for index in 0..4 {
+        assert!(rt; env.var_of(name(index)).is_some() == (index < 3));
+        assert!(rt; last.var_of(name(index)).is_some() == (index == 3));
+    }
+    Ok(())
+}
+
+#[test]
+fn a_copy_draws_the_same_variables(rt: HostRuntime) {
+    let mut fresh = Fresh::new();
+    let _ = fresh.next();
+    let mut copy = fresh.copy();
+    assert!(rt; copy.next() == Some(var(1)) && copy.next() == Some(var(2)));
+    assert!(rt; fresh.next() == Some(var(1)));
+}
+
 // One change breaks one condition: a variable twice in a list, a function that nothing defines, a unit above 256.
 fn conditions_tell_modules_apart()
     ensures variables { MeetsConditions names (module_of (function_of 0 1)) }

@@ -5,7 +5,7 @@ use Rattle.ef_base.specs.Texts.{Texts, Extends, HasName, IsNameOf, text}
 use Rattle.ef_base.specs.Laws.{named_later}
 use Rattle.ef_forms.specs.declared.form.FunctionRef.{FunctionRef}
 use Rattle.ef_forms.specs.declared.tables.FunctionName.{FunctionName}
-use Rattle.ef_forms.specs.Tree.{Tree, Trees, Clauses, FunctionTree, FormTree, PlacedTree, ModuleTree, tree, int, atom, var, any, list, list_to, tuple, matching, call, remote, end, more, no_guard, or_guard, no_clauses, clause, module_name, export, function, count}
+use Rattle.ef_forms.specs.Tree.{Tree, Trees, Clauses, FunctionTree, FormTree, PlacedTree, ModuleTree, tree, int, atom, var, any, list, list_to, tuple, matching, call, remote, case_of, end, more, no_guard, or_guard, no_clauses, clause, module_name, export, function, count}
 use Rattle.ef_forms.specs.OfTable.{TreeOf, TreesOf, ClausesOf, FunctionOf, ReferencesOf, FormOf, FormsOf, ModuleOf}
 use Rattle.ef_forms.specs.Built.{IsDefined, IsModuleInfo, IsCallOf, IsForeignModule, IsBuiltTree, AreBuilt, AreBuiltClauses, IsBuiltFunction, IsBuilt, Each, exports_in, exports_of, functions_in, functions_of, defined_in, name_of}
 
@@ -38,6 +38,7 @@ module _ (now a b : Texts) (agree : Agree now a b) where
   call_same defined (tree p (matching q e)) k of is = is
   call_same defined (tree p (call f es)) k of is = is
   call_same defined (tree p (remote m f es)) k of is = is
+  call_same defined (tree p (case_of e cs)) k of is = is
 
   foreign_same : (m : Tree) → TreeOf now m → IsForeignModule a m → IsForeignModule b m
   foreign_same (tree p (atom n)) of is = λ same. is (agree n of ∙ same)
@@ -50,6 +51,7 @@ module _ (now a b : Texts) (agree : Agree now a b) where
   foreign_same (tree p (matching q e)) of is = is
   foreign_same (tree p (call f es)) of is = is
   foreign_same (tree p (remote m f es)) of is = is
+  foreign_same (tree p (case_of e cs)) of is = is
 
   mutual
     tree_same : (defined : List FunctionName) (e : Tree) → TreeOf now e → IsBuiltTree a defined e → IsBuiltTree b defined e
@@ -63,15 +65,16 @@ module _ (now a b : Texts) (agree : Agree now a b) where
     tree_same defined (tree p (matching q e)) of is = (is.0, tree_same defined e of.1 is.1)
     tree_same defined (tree p (call f es)) of is = (call_same defined f (count es) of.0 is.0, trees_same defined es of.1 is.1)
     tree_same defined (tree p (remote m f es)) of is = (foreign_same m of.0 is.0, is.1, trees_same defined es of.2 is.2)
+    tree_same defined (tree p (case_of e cs)) of is = (tree_same defined e of.0 is.0, is.1, clauses_same defined 1 cs of.1 is.2)
 
     trees_same : (defined : List FunctionName) (es : Trees) → TreesOf now es → AreBuilt a defined es → AreBuilt b defined es
     trees_same defined end of is = is
     trees_same defined (more e es) of is = (tree_same defined e of.0 is.0, trees_same defined es of.1 is.1)
 
-  clauses_same : (defined : List FunctionName) (arity : ℕ) (cs : Clauses) → ClausesOf now cs → AreBuiltClauses a defined arity cs → AreBuiltClauses b defined arity cs
-  clauses_same defined arity no_clauses of is = is
-  clauses_same defined arity (clause p ps no_guard body cs) of is = (is.0, is.1, trees_same defined body of.2 is.2, clauses_same defined arity cs of.3 is.3)
-  clauses_same defined arity (clause p ps (or_guard es gs) body cs) of is = is
+    clauses_same : (defined : List FunctionName) (arity : ℕ) (cs : Clauses) → ClausesOf now cs → AreBuiltClauses a defined arity cs → AreBuiltClauses b defined arity cs
+    clauses_same defined arity no_clauses of is = is
+    clauses_same defined arity (clause p ps no_guard body cs) of is = (is.0, is.1, is.2, trees_same defined body of.2 is.3, clauses_same defined arity cs of.3 is.4)
+    clauses_same defined arity (clause p ps (or_guard es gs) body cs) of is = is
 
   function_same : (defined : List FunctionName) (f : FunctionTree) → FunctionOf now f → IsBuiltFunction a defined f → IsBuiltFunction b defined f
   function_same defined f of is = (λ info. is.0 (sym_info info), clauses_same defined f.arity f.clauses of.1 is.1)

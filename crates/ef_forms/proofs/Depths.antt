@@ -2,7 +2,7 @@
 use Rattle.std.proofs.Common.{◌≡◌, ℕ, zero, suc, ◌≤◌, ◌<◌, List, [], ◌∷◌, length, get_or, ap, arith}
 use Rattle.ef_base.specs.declared.fault.Place.{Place}
 use Rattle.ef_forms.specs.declared.expr.Expr.{Expr}
-use Rattle.ef_forms.specs.Tree.{Tree, Trees, Guards, Clauses, tree, int, atom, var, any, list, list_to, tuple, matching, call, remote, end, more, clause, count}
+use Rattle.ef_forms.specs.Tree.{Tree, Trees, Guards, Clauses, tree, int, atom, var, any, list, list_to, tuple, matching, call, remote, case_of, end, more, clause, count}
 use Rattle.ef_forms.specs.Plain.{plain, plain_all}
 use Rattle.ef_forms.specs.Depth.{depth, all_depth, clauses_depth}
 
@@ -17,6 +17,7 @@ some_depth (tree p (tuple es)) = omega arith
 some_depth (tree p (matching q e)) = omega arith
 some_depth (tree p (call f es)) = omega arith
 some_depth (tree p (remote m f es)) = omega arith
+some_depth (tree p (case_of e cs)) = omega arith
 
 -- ---- a part is less deep than its node
 
@@ -37,6 +38,9 @@ call_deeper p f es = (omega arith, omega arith)
 
 pub remote_deeper : (p : Place) (m f : Tree) (es : Trees) → (depth m < depth (tree p (remote m f es))) × (depth f < depth (tree p (remote m f es))) × (all_depth es < depth (tree p (remote m f es)))
 remote_deeper p m f es = (omega arith, omega arith, omega arith)
+
+pub case_deeper : (p : Place) (e : Tree) (cs : Clauses) → (depth e < depth (tree p (case_of e cs))) × (clauses_depth cs < depth (tree p (case_of e cs)))
+case_deeper p e cs = (omega arith, omega arith)
 
 -- ---- none of several is deeper than the deepest
 

@@ -3,3 +3,9 @@ pub mod Depths
 pub mod Takes
 pub mod Built
 pub mod Ways
+pub mod Bools
+pub mod Growth
+pub mod Grows
+pub mod Within
+pub mod Fewer
+pub mod Alike

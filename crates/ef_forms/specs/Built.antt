@@ -4,7 +4,7 @@ use Rattle.std.specs.List.{flat_map}
 use Rattle.ef_base.specs.Texts.{Texts, text}
 use Rattle.ef_forms.specs.declared.form.FunctionRef.{FunctionRef}
 use Rattle.ef_forms.specs.declared.tables.FunctionName.{FunctionName}
-use Rattle.ef_forms.specs.Tree.{Tree, Shape, Trees, Guards, Clauses, FunctionTree, FormTree, PlacedTree, ModuleTree, tree, int, atom, var, any, list, list_to, tuple, matching, call, remote, end, more, no_guard, or_guard, no_clauses, clause, module_name, export, function, count}
+use Rattle.ef_forms.specs.Tree.{Tree, Shape, Trees, Guards, Clauses, FunctionTree, FormTree, PlacedTree, ModuleTree, tree, int, atom, var, any, list, list_to, tuple, matching, call, remote, case_of, end, more, no_guard, or_guard, no_clauses, clause, module_name, export, function, count}
 
 -- ---- what a module defines and exports, in order of the source
 
@@ -85,12 +85,18 @@ abbrev mutual
   IsPatternShape (matching p e) = ⊥
   IsPatternShape (call f es) = ⊥
   IsPatternShape (remote m f es) = ⊥
+  IsPatternShape (case_of e cs) = ⊥
 
   pub ArePatterns : Trees → Type 0
   ArePatterns end = Unit {0}
   ArePatterns (more e es) = IsPattern e × ArePatterns es
 
--- ---- expressions
+-- ---- expressions and clauses
+
+-- there is a clause
+abbrev pub AreSome : Clauses → Type 0
+AreSome no_clauses = ⊥
+AreSome (clause p ps g body cs) = Unit {0}
 
 module _ (all : Texts) (defined : List FunctionName) where
   abbrev mutual
@@ -108,19 +114,18 @@ module _ (all : Texts) (defined : List FunctionName) where
     IsBuiltShape (matching p e) = IsPattern p × IsBuiltTree e
     IsBuiltShape (call f es) = IsCallOf all defined f (count es) × AreBuilt es
     IsBuiltShape (remote m f es) = IsForeignModule all m × IsAtom f × AreBuilt es
+    IsBuiltShape (case_of e cs) = IsBuiltTree e × AreSome cs × AreBuiltClauses 1 cs
 
     pub AreBuilt : Trees → Type 0
     AreBuilt end = Unit {0}
     AreBuilt (more e es) = IsBuiltTree e × AreBuilt es
 
--- ---- clauses without guards
-
--- each has so many patterns
-abbrev pub AreBuiltClauses : Texts → List FunctionName → ℕ → Clauses → Type 0
-AreBuiltClauses all defined arity no_clauses = Unit {0}
-AreBuiltClauses all defined arity (clause p ps no_guard body cs) =
-    (count ps ≡ arity) × ArePatterns ps × AreBuilt all defined body × AreBuiltClauses all defined arity cs
-AreBuiltClauses all defined arity (clause p ps (or_guard es gs) body cs) = ⊥
+    -- clauses without guards, each with so many patterns and a body that isn't empty
+    pub AreBuiltClauses : ℕ → Clauses → Type 0
+    AreBuiltClauses arity no_clauses = Unit {0}
+    AreBuiltClauses arity (clause p ps no_guard body cs) =
+        (count ps ≡ arity) × ArePatterns ps × (1 ≤ count body) × AreBuilt body × AreBuiltClauses arity cs
+    AreBuiltClauses arity (clause p ps (or_guard es gs) body cs) = ⊥
 
 abbrev pub IsBuiltFunction : Texts → List FunctionName → FunctionTree → Type 0
 IsBuiltFunction all defined f = (IsModuleInfo all (key_of f) → ⊥) × AreBuiltClauses all defined f.arity f.clauses
@@ -156,16 +161,17 @@ abbrev mutual
   IsNarrowShape (matching p e) = IsNarrow p × IsNarrow e
   IsNarrowShape (call f es) = (count es ≤ most_arguments) × IsNarrow f × AreNarrow es
   IsNarrowShape (remote m f es) = (count es ≤ most_arguments) × IsNarrow m × IsNarrow f × AreNarrow es
+  IsNarrowShape (case_of e cs) = IsNarrow e × AreNarrowClauses cs
 
   pub AreNarrow : Trees → Type 0
   AreNarrow end = Unit {0}
   AreNarrow (more e es) = IsNarrow e × AreNarrow es
 
-abbrev pub AreNarrowGuards : Guards → Type 0
-AreNarrowGuards no_guard = Unit {0}
-AreNarrowGuards (or_guard es gs) = AreNarrow es × AreNarrowGuards gs
+  pub AreNarrowGuards : Guards → Type 0
+  AreNarrowGuards no_guard = Unit {0}
+  AreNarrowGuards (or_guard es gs) = AreNarrow es × AreNarrowGuards gs
 
-abbrev pub AreNarrowClauses : Clauses → Type 0
-AreNarrowClauses no_clauses = Unit {0}
-AreNarrowClauses (clause p ps g body cs) =
-    (count ps ≤ most_arguments) × AreNarrow ps × AreNarrowGuards g × AreNarrow body × AreNarrowClauses cs
+  pub AreNarrowClauses : Clauses → Type 0
+  AreNarrowClauses no_clauses = Unit {0}
+  AreNarrowClauses (clause p ps g body cs) =
+      (count ps ≤ most_arguments) × AreNarrow ps × AreNarrowGuards g × AreNarrow body × AreNarrowClauses cs

@@ -3,5 +3,6 @@ pub mod Plain
 pub mod Built
 pub mod OfTable
 pub mod Ways
+pub mod Sure
 pub mod Weight
 pub mod Depth

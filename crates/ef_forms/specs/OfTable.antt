@@ -2,7 +2,7 @@
 use Rattle.std.specs.Prelude.{List, [], ◌∷◌}
 use Rattle.ef_base.specs.Texts.{Texts, HasName}
 use Rattle.ef_forms.specs.declared.form.FunctionRef.{FunctionRef}
-use Rattle.ef_forms.specs.Tree.{Tree, Shape, Trees, Guards, Clauses, FunctionTree, FormTree, PlacedTree, ModuleTree, tree, int, atom, var, any, list, list_to, tuple, matching, call, remote, end, more, no_guard, or_guard, no_clauses, clause, module_name, export, function}
+use Rattle.ef_forms.specs.Tree.{Tree, Shape, Trees, Guards, Clauses, FunctionTree, FormTree, PlacedTree, ModuleTree, tree, int, atom, var, any, list, list_to, tuple, matching, call, remote, case_of, end, more, no_guard, or_guard, no_clauses, clause, module_name, export, function}
 
 module _ (texts : Texts) where
   abbrev mutual
@@ -20,18 +20,19 @@ module _ (texts : Texts) where
     ShapeOf (matching p e) = TreeOf p × TreeOf e
     ShapeOf (call f es) = TreeOf f × TreesOf es
     ShapeOf (remote m f es) = TreeOf m × TreeOf f × TreesOf es
+    ShapeOf (case_of e cs) = TreeOf e × ClausesOf cs
 
     pub TreesOf : Trees → Type 0
     TreesOf end = Unit {0}
     TreesOf (more e es) = TreeOf e × TreesOf es
 
-  abbrev pub GuardsOf : Guards → Type 0
-  GuardsOf no_guard = Unit {0}
-  GuardsOf (or_guard es gs) = TreesOf es × GuardsOf gs
+    pub GuardsOf : Guards → Type 0
+    GuardsOf no_guard = Unit {0}
+    GuardsOf (or_guard es gs) = TreesOf es × GuardsOf gs
 
-  abbrev pub ClausesOf : Clauses → Type 0
-  ClausesOf no_clauses = Unit {0}
-  ClausesOf (clause p ps g body cs) = TreesOf ps × GuardsOf g × TreesOf body × ClausesOf cs
+    pub ClausesOf : Clauses → Type 0
+    ClausesOf no_clauses = Unit {0}
+    ClausesOf (clause p ps g body cs) = TreesOf ps × GuardsOf g × TreesOf body × ClausesOf cs
 
   abbrev pub FunctionOf : FunctionTree → Type 0
   FunctionOf f = HasName texts f.name × ClausesOf f.clauses

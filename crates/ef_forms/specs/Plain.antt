@@ -1,12 +1,13 @@
 -- The tree that a value of the program stands for.
 use Rattle.std.specs.Prelude.{List, [], ◌∷◌, map, Vec, Option, Some, None, Box}
 use Rattle.std.specs.declared.alloc.Global.{Global}
+use Rattle.ef_base.specs.declared.fault.Place.{Place}
 use Rattle.ef_forms.specs.declared.expr.Expr.{Expr}
 use Rattle.ef_forms.specs.declared.expr.Node.TheOpen as layer
-use Rattle.ef_forms.specs.declared.expr.Node.TheOpen.{Node-F, Expr-F}
+use Rattle.ef_forms.specs.declared.expr.Node.TheOpen.{Node-F, Clause-F, Expr-F}
 use Rattle.ef_forms.specs.declared.expr.Node.TheFolds.{fold-Expr, fold-Node}
 use Rattle.ef_forms.specs.declared.expr.Node.{Node}
-use Rattle.ef_forms.specs.declared.expr.Clause.{Clause}
+use Rattle.ef_forms.specs.declared.expr.Clause.{Clause, out-Clause}
 use Rattle.ef_forms.specs.declared.form.Function.{Function}
 use Rattle.ef_forms.specs.declared.form.Form.{Form}
 use Rattle.ef_forms.specs.declared.form.Form.TheVariants as form
@@ -19,12 +20,27 @@ abbrev pub trees : List Tree → Trees
 trees [] = t.end
 trees (e ∷ es) = t.more e (trees es)
 
+-- one clause
+pub record ClauseTree : Type 0 where
+  pub place : Place
+  pub patterns : List Tree
+  pub guard : List (List Tree)
+  pub body : List Tree
+
+abbrev pub guards : List (List Tree) → Guards
+guards [] = t.no_guard
+guards (es ∷ gs) = t.or_guard (trees es) (guards gs)
+
+abbrev pub clauses : List ClauseTree → Clauses
+clauses [] = t.no_clauses
+clauses (c ∷ cs) = t.clause c.place (trees c.patterns) (guards c.guard) (trees c.body) (clauses cs)
+
 abbrev pub list_of : Trees → Option (Box Tree Global) → Shape
 list_of es None = t.list es
 list_of es (Some e) = t.list_to es e.value
 
 -- one layer, with the trees of the parts in their places
-abbrev pub shape_layer : Node-F Shape Tree → Shape
+abbrev pub shape_layer : Node-F Shape ClauseTree Tree → Shape
 shape_layer (layer.Int n) = t.int n
 shape_layer (layer.Atom n) = t.atom n
 shape_layer (layer.Var n) = t.var n
@@ -34,26 +50,36 @@ shape_layer (layer.Tuple es) = t.tuple (trees es.items)
 shape_layer (layer.Match p e) = t.matching p.value e.value
 shape_layer (layer.Call f es) = t.call f.value (trees es.items)
 shape_layer (layer.Remote m f es) = t.remote m.value f.value (trees es.items)
+shape_layer (layer.Case e cs) = t.case_of e.value (clauses cs.items)
 
-abbrev pub tree_layer : Expr-F Shape Tree → Tree
+abbrev pub clause_layer : Clause-F Shape ClauseTree Tree → ClauseTree
+clause_layer c = record { place = c.place; patterns = c.patterns.items; guard = map (λ es. es.items) c.guard.items; body = c.body.items }
+
+abbrev pub tree_layer : Expr-F Shape ClauseTree Tree → Tree
 tree_layer e = t.tree e.place e.node
 
 abbrev pub plain : Expr → Tree
-plain = fold-Expr Shape Tree shape_layer tree_layer
+plain = fold-Expr Shape ClauseTree Tree shape_layer clause_layer tree_layer
 
 abbrev pub plain_node : Node → Shape
-plain_node = fold-Node Shape Tree shape_layer tree_layer
+plain_node = fold-Node Shape ClauseTree Tree shape_layer clause_layer tree_layer
 
 abbrev pub plain_all : List Expr → Trees
 plain_all es = trees (map plain es)
 
 abbrev pub plain_guard : List (Vec Expr Global) → Guards
-plain_guard [] = t.no_guard
-plain_guard (es ∷ gs) = t.or_guard (plain_all es.items) (plain_guard gs)
+plain_guard gs = guards (map (λ (es : Vec Expr Global). map plain es.items) gs)
+
+abbrev pub plain_clause : Clause → ClauseTree
+plain_clause c = record {
+  place = (out-Clause c).place;
+  patterns = map plain (out-Clause c).patterns.items;
+  guard = map (λ (es : Vec Expr Global). map plain es.items) (out-Clause c).guard.items;
+  body = map plain (out-Clause c).body.items;
+}
 
 abbrev pub plain_clauses : List Clause → Clauses
-plain_clauses [] = t.no_clauses
-plain_clauses (c ∷ cs) = t.clause c.place (plain_all c.patterns.items) (plain_guard c.guard.items) (plain_all c.body.items) (plain_clauses cs)
+plain_clauses cs = clauses (map plain_clause cs)
 
 abbrev pub plain_function : Function → FunctionTree
 plain_function f = record { place = f.place; name = f.name; arity = f.arity; clauses = plain_clauses f.clauses.items }

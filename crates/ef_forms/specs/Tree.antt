@@ -23,20 +23,21 @@ mutual
     matching : Tree → Tree → Shape
     call : Tree → Trees → Shape
     remote : Tree → Tree → Trees → Shape
+    case_of : Tree → Clauses → Shape
 
   pub data Trees : Type 0 where
     end : Trees
     more : Tree → Trees → Trees
 
--- the alternatives of a guard
-pub data Guards : Type 0 where
-  no_guard : Guards
-  or_guard : Trees → Guards → Guards
+  -- the alternatives of a guard
+  pub data Guards : Type 0 where
+    no_guard : Guards
+    or_guard : Trees → Guards → Guards
 
--- clauses, each with its place, patterns, guard and body
-pub data Clauses : Type 0 where
-  no_clauses : Clauses
-  clause : Place → Trees → Guards → Trees → Clauses → Clauses
+  -- clauses, each with its place, patterns, guard and body
+  pub data Clauses : Type 0 where
+    no_clauses : Clauses
+    clause : Place → Trees → Guards → Trees → Clauses → Clauses
 
 pub record FunctionTree : Type 0 where
   pub place : Place

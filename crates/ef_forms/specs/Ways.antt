@@ -1,13 +1,13 @@
 -- Which names may be bound after an expression, and which uses of names are faults, as far as trees are built.
 -- A way is the set of names that are bound on it. `ways e s` lists the ways that lead on from `e`, each grown from the
 -- one set `s` with which it starts.
-use Rattle.std.specs.Prelude.{ℕ, List, [], ◌∷◌, ◌++◌, codes, Bool, false, ◌||◌, ◌==◌, map, if◌then◌else◌}
-use Rattle.std.specs.List.{flat_map, list_any}
+use Rattle.std.specs.Prelude.{ℕ, List, [], ◌∷◌, ◌++◌, codes, Bool, false, ◌||◌, ◌&&◌, ◌==◌, map, if◌then◌else◌}
+use Rattle.std.specs.List.{flat_map, list_any, list_all}
 use Rattle.ef_base.specs.declared.name.Name.{Name}
 use Rattle.ef_base.specs.declared.fault.Place.{Place}
 use Rattle.ef_base.specs.declared.fault.Fault.{Fault}
 use Rattle.ef_base.specs.Texts.{Texts, text}
-use Rattle.ef_forms.specs.Tree.{Tree, Shape, Trees, Clauses, FunctionTree, tree, int, atom, var, any, list, list_to, tuple, matching, call, remote, end, more, no_clauses, clause}
+use Rattle.ef_forms.specs.Tree.{Tree, Shape, Trees, Clauses, FunctionTree, tree, int, atom, var, any, list, list_to, tuple, matching, call, remote, case_of, end, more, no_clauses, clause}
 
 -- a set of names, each by its number
 abbrev pub NameSet : Type 0
@@ -22,6 +22,9 @@ one_name n = λ y. n.index == y
 abbrev pub union : NameSet → NameSet → NameSet
 union s t = λ y. s y || t y
 
+abbrev pub common : NameSet → NameSet → NameSet
+common s t = λ y. s y && t y
+
 -- the sets that may be bound after something that starts from one set
 abbrev pub Way : Type 0
 Way = NameSet → List NameSet
@@ -31,6 +34,10 @@ stay s = s ∷ []
 
 abbrev pub bind : NameSet → Way
 bind t s = union s t ∷ []
+
+-- the one or the other
+abbrev pub or_else : Way → Way → Way
+or_else f g s = f s ++ g s
 
 -- one after the other
 abbrev pub before : Way → Way → Way
@@ -60,10 +67,15 @@ abbrev mutual
   shape_names (matching p e) = union (names p) (names e)
   shape_names (call f es) = union (names f) (all_names es)
   shape_names (remote m f es) = union (names m) (union (names f) (all_names es))
+  shape_names (case_of e cs) = union (names e) (clauses_names cs)
 
   pub all_names : Trees → NameSet
   all_names end = no_names
   all_names (more e es) = union (names e) (all_names es)
+
+  pub clauses_names : Clauses → NameSet
+  clauses_names no_clauses = no_names
+  clauses_names (clause p ps g body cs) = union (all_names ps) (union (all_names body) (clauses_names cs))
 
 -- after a use the name counts as bound
 abbrev mutual
@@ -82,15 +94,23 @@ abbrev mutual
   shape_ways (matching p e) = before (ways e) (bind (names p))
   shape_ways (call f es) = beside (ways f) (side_by_side es)
   shape_ways (remote m f es) = beside (ways m) (beside (ways f) (side_by_side es))
+  -- the clauses start behind the expression
+  shape_ways (case_of e cs) = before (ways e) (clauses_ways cs)
 
   pub side_by_side : Trees → Way
   side_by_side end = stay
   side_by_side (more e es) = beside (ways e) (side_by_side es)
 
--- a body goes from left to right
-abbrev pub body_ways : Trees → Way
-body_ways end = stay
-body_ways (more e es) = before (ways e) (body_ways es)
+  -- a body goes from left to right
+  pub body_ways : Trees → Way
+  body_ways end = stay
+  body_ways (more e es) = before (ways e) (body_ways es)
+
+  -- what one of the clauses leads to; the names of its patterns are bound first
+  pub clauses_ways : Clauses → Way
+  clauses_ways no_clauses = stay
+  clauses_ways (clause p ps g body no_clauses) = before (bind (all_names ps)) (body_ways body)
+  clauses_ways (clause p ps g body (clause q qs h d cs)) = or_else (before (bind (all_names ps)) (body_ways body)) (clauses_ways (clause q qs h d cs))
 
 -- ---- faults
 
@@ -98,16 +118,53 @@ body_ways (more e es) = before (ways e) (body_ways es)
 abbrev pub on_some : Name → List NameSet → Bool
 on_some n sets = list_any (λ s. s n.index) sets
 
+-- on all of them
+abbrev pub on_all : Name → List NameSet → Bool
+on_all n sets = list_all (λ s. s n.index) sets
+
 module _ (all : Texts) where
   abbrev pub unbound : Place → Name → Fault
   unbound p n = record { place = p; code = 451; words = text all n }
 
+  abbrev pub unsafe : Place → Name → Fault
+  unsafe p n = record { place = p; code = 452; words = text all n }
+
   abbrev pub wildcard : Place → Fault
   wildcard p = record { place = p; code = 451; words = codes "_" }
 
-  -- a use is unbound where the name is bound on no way
+  -- a use is unbound where the name is bound on no way, and unsafe where it is bound on some and not on all
   abbrev pub use_faults : Place → Name → List NameSet → List Fault
-  use_faults p n sets = if on_some n sets then [] else (unbound p n ∷ [])
+  use_faults p n sets = if on_all n sets then [] else (if on_some n sets then (unsafe p n ∷ []) else (unbound p n ∷ []))
+
+  -- a name in a pattern is unsafe in the same way, and otherwise is bound or compares
+  abbrev pub name_faults : Place → Name → List NameSet → List Fault
+  name_faults p n sets = if on_all n sets then [] else (if on_some n sets then (unsafe p n ∷ []) else [])
+
+  -- the variables of a pattern
+  abbrev mutual
+    pub pattern_faults : Tree → List NameSet → List Fault
+    pattern_faults (tree p e) sets = pattern_shape_faults p e sets
+
+    pub pattern_shape_faults : Place → Shape → List NameSet → List Fault
+    pattern_shape_faults p (int i) sets = []
+    pattern_shape_faults p (atom n) sets = []
+    pattern_shape_faults p (var n) sets = name_faults p n sets
+    pattern_shape_faults p any sets = []
+    pattern_shape_faults p (list es) sets = patterns_faults es sets
+    pattern_shape_faults p (list_to es e) sets = patterns_faults es sets ++ pattern_faults e sets
+    pattern_shape_faults p (tuple es) sets = patterns_faults es sets
+    pattern_shape_faults p (matching q e) sets = pattern_faults q sets ++ pattern_faults e sets
+    pattern_shape_faults p (call f es) sets = pattern_faults f sets ++ patterns_faults es sets
+    pattern_shape_faults p (remote m f es) sets = pattern_faults m sets ++ (pattern_faults f sets ++ patterns_faults es sets)
+    pattern_shape_faults p (case_of e cs) sets = pattern_faults e sets ++ pattern_clauses_faults cs sets
+
+    pub patterns_faults : Trees → List NameSet → List Fault
+    patterns_faults end sets = []
+    patterns_faults (more e es) sets = pattern_faults e sets ++ patterns_faults es sets
+
+    pub pattern_clauses_faults : Clauses → List NameSet → List Fault
+    pattern_clauses_faults no_clauses sets = []
+    pattern_clauses_faults (clause p ps g body cs) sets = patterns_faults ps sets ++ (patterns_faults body sets ++ pattern_clauses_faults cs sets)
 
   abbrev mutual
     pub faults : Tree → List NameSet → List Fault
@@ -122,23 +179,23 @@ module _ (all : Texts) where
     shape_faults p (list es) sets = all_faults es sets
     shape_faults p (list_to es e) sets = all_faults es sets ++ faults e sets
     shape_faults p (tuple es) sets = all_faults es sets
-    shape_faults p (matching q e) sets = faults e sets
+    shape_faults p (matching q e) sets = faults e sets ++ pattern_faults q (flat_map (ways e) sets)
     shape_faults p (call f es) sets = faults f sets ++ all_faults es sets
     shape_faults p (remote m f es) sets = faults m sets ++ (faults f sets ++ all_faults es sets)
+    shape_faults p (case_of e cs) sets = faults e sets ++ clauses_faults cs (flat_map (ways e) sets)
 
     pub all_faults : Trees → List NameSet → List Fault
     all_faults end sets = []
     all_faults (more e es) sets = faults e sets ++ all_faults es sets
 
-  abbrev pub body_faults : Trees → List NameSet → List Fault
-  body_faults end sets = []
-  body_faults (more e es) sets = faults e sets ++ body_faults es (flat_map (ways e) sets)
+    pub body_faults : Trees → List NameSet → List Fault
+    body_faults end sets = []
+    body_faults (more e es) sets = faults e sets ++ body_faults es (flat_map (ways e) sets)
 
-  -- the names of the patterns are bound first
-  abbrev pub clauses_faults : Clauses → List NameSet → List Fault
-  clauses_faults no_clauses sets = []
-  clauses_faults (clause p ps g body cs) sets =
-      body_faults body (flat_map (bind (all_names ps)) sets) ++ clauses_faults cs sets
+    pub clauses_faults : Clauses → List NameSet → List Fault
+    clauses_faults no_clauses sets = []
+    clauses_faults (clause p ps g body cs) sets =
+        patterns_faults ps sets ++ (body_faults body (flat_map (bind (all_names ps)) sets) ++ clauses_faults cs sets)
 
   -- a function starts with no name bound
   abbrev pub function_faults : FunctionTree → List Fault

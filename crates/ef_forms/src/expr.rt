@@ -37,9 +37,15 @@ pub enum Node {
         function: Box<Expr>,
         args: Vec<Expr>,
     },
+    /// There is a clause, and each has one pattern.
+    Case {
+        arg: Box<Expr>,
+        clauses: Vec<Clause>,
+    },
 }
 
 /// A clause. The guard is a list of alternatives, each a list of tests; no guard is the empty list.
+#[cycle(expr)]
 #[derive(Drop)]
 pub struct Clause {
     pub place: Place,

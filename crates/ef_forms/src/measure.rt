@@ -1,10 +1,10 @@
 // How deep and how heavy trees are.
-ghost use Rattle.std.specs.Prelude.{◌≡◌, ◌^◌, ◌+◌, ◌-◌, min};
+ghost use Rattle.std.specs.Prelude.{◌≡◌, ◌∷◌, [], ◌^◌, ◌+◌, ◌-◌, min};
 ghost use Rattle.ef_forms.specs.Depth as d;
-ghost use Rattle.ef_forms.specs.Plain.{plain, plain_all};
+ghost use Rattle.ef_forms.specs.Plain.{plain, plain_all, plain_clauses};
 ghost use Rattle.ef_forms.specs.Weight as w;
 
-use crate::{Expr, Node, RecordDef};
+use crate::{Clause, Expr, Node, RecordDef};
 
 // One more than the greatest weight of a function.
 const OVER: u64 = (1 << 22) + 1;
@@ -33,6 +33,7 @@ pub fn depth(expr: &Expr) -> u32
             let parts = depth(module).max(depth(function)).max(all_depth(args));
             parts.saturating_add(1)
         }
+        Node::Case { arg, clauses } => depth(arg).max(clauses_depth(clauses)).saturating_add(1),
     }
 }
 
@@ -44,6 +45,29 @@ fn all_depth(exprs: &[Expr]) -> u32
     let mut greatest = 0;
     for expr in exprs {
         greatest = depth(expr).max(greatest);
+    }
+    greatest
+}
+
+// The greatest of the parts of clauses; 0 for no clauses.
+#[cycle(depth)]
+fn clauses_depth(clauses: &[Clause]) -> u32
+    ensures { result ≡ min (d.clauses_depth (plain_clauses clauses.now)) (2 ^ 32 - 1) }
+{
+    let mut greatest = 0;
+    for clause in clauses {
+        greatest = clause_depth(clause).max(greatest);
+    }
+    greatest
+}
+
+#[cycle(depth)]
+fn clause_depth(clause: &Clause) -> u32
+    ensures { result ≡ min (d.clauses_depth (plain_clauses (clause.now ∷ []))) (2 ^ 32 - 1) }
+{
+    let mut greatest = all_depth(&clause.patterns).max(all_depth(&clause.body));
+    for tests in &clause.guard {
+        greatest = all_depth(tests).max(greatest);
     }
     greatest
 }
@@ -77,6 +101,9 @@ pub fn weight(expr: &Expr, records: &[RecordDef]) -> u64
             let names = weight(module, records) + weight(function, records);
             (1 + names + all_weight(args, records)).min(OVER)
         }
+        Node::Case { arg, clauses } => {
+            (1 + weight(arg, records) + clauses_weight(clauses, records)).min(OVER)
+        }
     }
 }
 
@@ -88,6 +115,30 @@ fn all_weight(exprs: &[Expr], records: &[RecordDef]) -> u64
     let mut sum = 0;
     for expr in exprs {
         sum = (sum + weight(expr, records)).min(OVER);
+    }
+    sum
+}
+
+// The sum of the parts of clauses, or 2^22 + 1 where it is greater.
+#[cycle(weight)]
+fn clauses_weight(clauses: &[Clause], records: &[RecordDef]) -> u64
+    ensures { result ≡ min (w.clauses_weight (plain_clauses clauses.now)) (2 ^ 22 + 1) }
+{
+    let mut sum = 0;
+    for clause in clauses {
+        sum = (sum + clause_weight(clause, records)).min(OVER);
+    }
+    sum
+}
+
+#[cycle(weight)]
+fn clause_weight(clause: &Clause, records: &[RecordDef]) -> u64
+    ensures { result ≡ min (w.clauses_weight (plain_clauses (clause.now ∷ []))) (2 ^ 22 + 1) }
+{
+    let parts = all_weight(&clause.patterns, records) + all_weight(&clause.body, records);
+    let mut sum = parts.min(OVER);
+    for tests in &clause.guard {
+        sum = (sum + all_weight(tests, records)).min(OVER);
     }
     sum
 }

@@ -1,5 +1,5 @@
 // Depths and weights of trees.
-use crate::{Expr, Node, depth, weight};
+use crate::{Clause, Expr, Node, depth, weight};
 use ef_base::{Name, Place};
 use std::alloc::Global;
 use std::test::Fail;
@@ -61,6 +61,29 @@ fn matching(alloc: Global, left: Expr, right: Expr) -> Result<Expr, Fail> {
     }))
 }
 
+// A clause with one pattern, a guard of one test and a body of one expression.
+fn clause(alloc: Global, pattern: Expr, guard: Option<Expr>, body: Expr) -> Result<Clause, Fail> {
+    let mut alternatives = Vec::new(alloc);
+    if let Some(test) = guard {
+        alternatives.push(vec![in alloc; test]?)?;
+    }
+    Ok(Clause {
+        place: Place {
+            file: 0,
+            line: 1,
+            column: 1,
+        },
+        patterns: vec![in alloc; pattern]?,
+        guard: alternatives,
+        body: vec![in alloc; body]?,
+    })
+}
+
+fn case(alloc: Global, arg: Expr, clauses: Vec<Clause>) -> Result<Expr, Fail> {
+    let arg = Box::new(alloc, arg)?;
+    Ok(expr(Node::Case { arg, clauses }))
+}
+
 #[test]
 fn depths_and_weights(rt: HostRuntime) -> Result<(), Fail> {
     let alloc = rt.alloc();
@@ -70,7 +93,27 @@ fn depths_and_weights(rt: HostRuntime) -> Result<(), Fail> {
     let head = vec![in alloc; chain(alloc, 0)?]?;
     let deep_head = vec![in alloc; chain(alloc, 1)?]?;
     let single = vec![in alloc; chain(alloc, 0)?]?;
+    let plain = clause(alloc, chain(alloc, 0)?, None, chain(alloc, 1)?)?;
+    let guarded = clause(
+        alloc,
+        chain(alloc, 1)?,
+        Some(chain(alloc, 3)?),
+        chain(alloc, 0)?,
+    )?;
+    let other = clause(alloc, expr(Node::Any), None, atom())?;
     let table = [
+        (
+            "case a(a(1)) of _ -> a end",
+            case(alloc, chain(alloc, 2)?, vec![in alloc; other]?)?,
+            4,
+            8,
+        ),
+        (
+            "case 1 of 1 -> a(1); a(1) when a(a(a(1))) -> 1 end",
+            case(alloc, chain(alloc, 0)?, vec![in alloc; plain, guarded]?)?,
+            5,
+            17,
+        ),
         ("1", chain(alloc, 0)?, 1, 1),
         ("a(1)", chain(alloc, 1)?, 2, 3),
         ("a()", call(alloc, atom(), Vec::new(alloc))?, 2, 2),

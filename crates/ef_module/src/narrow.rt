@@ -2,7 +2,8 @@
 ghost use Rattle.std.specs.Prelude.{◌≡◌, ◌&&◌, nat_le};
 ghost use Rattle.ef_forms.specs.Tree.{count};
 ghost use Rattle.ef_forms.specs.Plain.{plain, plain_all, plain_guard, plain_clauses};
-ghost use Rattle.ef_module.specs.Narrow.{narrow, narrow_all, narrow_guard, narrow_clause, narrow_clauses};
+ghost use Rattle.ef_forms.specs.declared.expr.Clause.{out-Clause};
+ghost use Rattle.ef_module.specs.Narrow.{narrow, narrow_all, narrow_clause, narrow_clauses};
 
 use ef_forms::{Clause, Expr, Node};
 
@@ -29,6 +30,7 @@ fn is_narrow(expr: &Expr) -> bool
             function,
             args,
         } => is_narrow(module) && is_narrow(function) && are_narrow_args(args.as_slice()),
+        Node::Case { arg, clauses } => is_narrow(arg) && are_narrow_clauses(clauses.as_slice()),
     }
 }
 
@@ -53,28 +55,20 @@ fn are_narrow(exprs: &[Expr]) -> bool
     true
 }
 
+#[cycle(trees)]
 #[tactic(auto, using(crate::proofs::Limits::laws))]
-fn is_narrow_guard(guard: &[Vec<Expr>]) -> bool
-    ensures { result ≡ narrow_guard (plain_guard guard.now) }
+fn is_narrow_clause(clause: &Clause) -> bool
+    ensures { result ≡ narrow_clause (plain_all (out-Clause clause.now).patterns.items) (plain_guard (out-Clause clause.now).guard.items) (plain_all (out-Clause clause.now).body.items) }
 {
-    for tests in guard {
+    for tests in &clause.guard {
         if !are_narrow(tests.as_slice()) {
             return false;
         }
     }
-    true
+    are_narrow_args(clause.patterns.as_slice()) && are_narrow(clause.body.as_slice())
 }
 
-#[tactic(auto, using(crate::proofs::Limits::laws))]
-fn is_narrow_clause(clause: &Clause) -> bool
-    ensures { result ≡ narrow_clause (plain_all clause.now.patterns.items) (plain_guard clause.now.guard.items) (plain_all clause.now.body.items) }
-{
-    clause.patterns.len() <= MOST_ARGUMENTS
-        && are_narrow(clause.patterns.as_slice())
-        && is_narrow_guard(clause.guard.as_slice())
-        && are_narrow(clause.body.as_slice())
-}
-
+#[cycle(trees)]
 #[tactic(auto, using(crate::proofs::Limits::laws))]
 pub fn are_narrow_clauses(clauses: &[Clause]) -> bool
     ensures { result ≡ narrow_clauses (plain_clauses clauses.now) }

@@ -7,7 +7,7 @@ ghost use Rattle.ef_token.specs.declared.token.TokenKind.TheVariants as kind_is;
 use crate::{FormRefusal, form, module};
 use ef_base::{Name, Names, Place};
 use ef_forms::Form;
-use ef_token::{Sym, Token, TokenKind};
+use ef_token::{Sym, Token, TokenKind, Word};
 use std::alloc::{AllocError, Global};
 use std::test::Fail;
 
@@ -30,6 +30,9 @@ fn kind_of(names: &Names, letter: char) -> TokenKind
         '1' => TokenKind::Int(1),
         '5' => TokenKind::Int(255),
         '6' => TokenKind::Int(256),
+        'c' => TokenKind::Word(Word::Case),
+        'o' => TokenKind::Word(Word::Of),
+        'd' => TokenKind::Word(Word::End),
         '-' => TokenKind::Sym(Sym::Minus),
         '(' => TokenKind::Sym(Sym::LeftParen),
         ')' => TokenKind::Sym(Sym::RightParen),
@@ -112,8 +115,13 @@ fn forms(rt: HostRuntime) -> Result<(), Fail> {
         ("a(a,a)>a()", ('f', 1)),
         ("a([a|_],{a,_})>a=[]", ('f', 1)),
         ("a(a)>1;a(_)>{a};a([])>_", ('f', 3)),
+        ("a(a)>cao1>a;_>_,{a}d", ('f', 1)),
+        ("a(a)>cao1>a;_>a()d;a(_)>a(caoa>1d)", ('f', 2)),
         ("a(a)>1;e(_)>1", ('!', 1)),
         ("a()>1;", ('!', 1)),
+        ("a(a)>cao1>a", ('!', 1)),
+        ("a(a)>caod", ('!', 1)),
+        ("-m(cao_>ad)", ('!', 1)),
         ("a([a|])>1", ('!', 1)),
         ("-a(a)", ('!', 1)),
         ("-m(a)|", ('!', 1)),
@@ -126,6 +134,42 @@ fn forms(rt: HostRuntime) -> Result<(), Fail> {
     ];
     for (text, want) in table {
         assert_eq!(rt; read(rt.alloc(), text)?, want, "{text}");
+    }
+    Ok(())
+}
+
+// What the form is that has so many integers with commas between, and one more.
+fn wide(alloc: Global, before: &str, integers: u32, behind: &str) -> Result<(char, usize), Fail> {
+    let mut text = String::new(alloc);
+    text.push_str(before)?;
+    for _ in 0..integers {
+        text.push_str("1,")?;
+    }
+    text.push('1')?;
+    text.push_str(behind)?;
+    read(alloc, text.as_str())
+}
+
+#[test]
+fn limits(rt: HostRuntime) -> Result<(), Fail> {
+    let table = [
+        ("a(", 254, ")>1", ('f', 1)),
+        ("a(", 255, ")>1", ('!', 1)),
+        ("a()>a(", 254, ")", ('f', 1)),
+        ("a()>a(", 255, ")", ('!', 1)),
+        ("a()>cao_>a(", 254, ")d", ('f', 1)),
+        ("a()>cao_>a(", 255, ")d", ('!', 1)),
+        ("a()>ca(", 255, ")o_>1d", ('!', 1)),
+        ("a()>caoa(", 255, ")>1d", ('!', 1)),
+        ("a()>cao1>1;_>1,a(", 255, ")d", ('!', 1)),
+        ("a()>cao{", 255, "}>1d", ('f', 1)),
+    ];
+    for (before, integers, behind, want) in table {
+        assert_eq!(rt;
+            wide(rt.alloc(), before, integers, behind)?,
+            want,
+            "{before} {integers} {behind}"
+        );
     }
     Ok(())
 }

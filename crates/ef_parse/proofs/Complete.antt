@@ -7,14 +7,15 @@ use Rattle.ef_base.specs.Texts.{Texts}
 use Rattle.ef_token.specs.declared.token.Token.{Token}
 use Rattle.ef_token.specs.declared.token.TokenKind.TheVariants as kind
 use Rattle.ef_token.specs.declared.word.Sym.TheVariants as sy
-use Rattle.ef_forms.specs.Tree.{Tree, Shape, Trees, Clauses, tree, list, list_to, tuple, matching, call, remote, end, more, no_clauses, clause, no_guard}
+use Rattle.ef_token.specs.declared.word.Word.TheVariants as word
+use Rattle.ef_forms.specs.Tree.{Tree, Shape, Trees, Clauses, tree, list, list_to, tuple, matching, call, remote, case_of, end, more, no_clauses, clause, no_guard}
 use Rattle.ef_parse.specs.declared.ahead.Ahead.{Ahead}
 use Rattle.ef_parse.specs.declared.ahead.Ahead.TheVariants as ahead
 use Rattle.ef_parse.specs.declared.ahead.Bracket.{Bracket}
 use Rattle.ef_parse.specs.declared.ahead.Bracket.TheVariants as bracket
-use Rattle.ef_parse.specs.Grammar.{token, symbol, start_of, match_level, call_level, max_level, Spells, SpellsAll, SpellsSome, SpellsClause, SpellsClauses, a_variable, an_underscore, an_atom, an_integer, parentheses, a_list, a_list_to, a_tuple, a_match, a_call, a_remote, nothing, some, one, and_more, a_clause, one_clause, and_clauses}
-use Rattle.ef_parse.specs.Machine.{parenthesised, enclosed, Part, Parts, Group, Opener, call_of, remote_of, list_at, tuple_at, head_of, body_of, Frame, InParens, AfterColon, AfterMatch, InList, InTail, Mode, Need, Have, NeedName, NeedHead, NeedArrow, Outcome, Expression, Function, Refused, Keep, Take, Over, State, Go, Done, st, apply, look, put_in, put_clause, add, add_clause, part_of, items_of, group_of, none, no_group, ended, begin, close, opened, pushed, go_on, named, move, step, Steps, here, then_on, Ends}
-use Rattle.ef_parse.proofs.Parts.{less_true, none_is, parens_is, enclosed_is, tailed_is, matched_is, called_is, called_in_is, put_in_is, put_clause_is}
+use Rattle.ef_parse.specs.Grammar.{token, symbol, keyword, start_of, match_level, call_level, max_level, Spells, SpellsAll, SpellsSome, SpellsBranch, SpellsBranches, SpellsClause, SpellsClauses, a_variable, an_underscore, an_atom, an_integer, parentheses, a_list, a_list_to, a_tuple, a_match, a_call, a_remote, a_case, nothing, some, one, and_more, a_branch, one_branch, and_branches, a_clause, one_clause, and_clauses}
+use Rattle.ef_parse.specs.Machine.{parenthesised, enclosed, Part, Parts, Group, Opener, call_of, remote_of, list_at, tuple_at, head_of, body_of, branch_of, Frame, InParens, AfterColon, AfterMatch, InList, InTail, InCase, InPattern, Mode, Need, Have, NeedName, NeedHead, NeedArrow, Outcome, Expression, Function, Refused, Keep, Take, Over, State, Go, Done, st, apply, look, put_in, put_clause, put_branch, chosen, add, add_clause, part_of, items_of, group_of, none, no_group, ended, begin, close, opened, pushed, go_on, named, move, step, Steps, here, then_on, Ends}
+use Rattle.ef_parse.proofs.Parts.{less_true, none_is, parens_is, enclosed_is, tailed_is, matched_is, called_is, called_in_is, chosen_is, put_in_is, put_clause_is, put_branch_is}
 use Rattle.ef_parse.proofs.Seen.{closing, sees_closing, sees_underscore, sees_variable}
 
 -- one list behind another
@@ -91,6 +92,7 @@ module _ (all : Texts) where
   begun e k d ts (a_match l e' j k' d' g p ls es low h h') = begun_on ls _ (begun l j d' ls h)
   begun e k d ts (a_call f args d' g p q fs xs h hs) = begun_on fs _ (begun f max_level d' fs h)
   begun e k d ts (a_remote m f args c d' g p q r ms fs xs h h' hs) = begun_on ms _ (begun m max_level c ms h)
+  begun e k d ts (a_case e' cs k' d' g p q r xs bs h hs) = tt
 
 -- ---- single steps
 
@@ -105,6 +107,8 @@ module _ (limit : ℕ) where
   opens p (AfterMatch l ∷ K) h = refl
   opens p (InList o es ∷ K) h = refl
   opens p (InTail q es ∷ K) h = refl
+  opens p (InCase q ∷ K) h = refl
+  opens p (InPattern q e cs ∷ K) h = refl
 
   pushes : (F : Frame) (K : List Frame) → least K ≤ call_level → pushed limit F K ≡ Take Need (F ∷ K)
   pushes F [] h = refl
@@ -113,6 +117,8 @@ module _ (limit : ℕ) where
   pushes F (AfterMatch l ∷ K) h = refl
   pushes F (InList o es ∷ K) h = refl
   pushes F (InTail q es ∷ K) h = refl
+  pushes F (InCase q ∷ K) h = refl
+  pushes F (InPattern q e cs ∷ K) h = refl
 
   -- an equals sign behind an expression of a greater level
   matches : (p : Part) (k : ℕ) (K : List Frame) → match_level < k → least K ≤ call_level → go_on limit p k K ahead.Match ≡ Take Need (AfterMatch p ∷ K)
@@ -139,6 +145,10 @@ module _ (limit : ℕ) where
       → ended limit bracket.Round (remote_of (part_of limit p m c) (part_of limit q f d)) (items_of limit es g) K ≡ Take (Have (part_of limit p (tree p (remote m f es)) (suc (max c (max d g)))) call_level) K
   ends_remote p q m f es c d g K = ap (λ z. Take (Have z call_level) K) (called_in_is limit p q m f es c d g)
 
+  ends_case : (p q : Place) (e : Tree) (cs : Clauses) (d g : ℕ) (K : List Frame)
+      → Take (Have (chosen limit p (part_of limit q e d) (group_of limit cs (max 0 g))) max_level) K ≡ Take (Have (part_of limit p (tree p (case_of e cs)) (suc (max d g))) max_level) K
+  ends_case p q e cs d g K = ap (λ z. Take (Have z max_level) K) (ap (λ n. chosen limit p (part_of limit q e d) (group_of limit cs n)) (zero_max g) ∙ chosen_is limit p q e cs d g)
+
 -- ---- runs
 
 module _ (all : Texts) (limit : ℕ) where
@@ -163,6 +173,15 @@ module _ (all : Texts) (limit : ℕ) where
     pub level : ℕ
     pub steps : Steps all limit (st Need (InList o done ∷ K) ts) (st (Have last level) (InList o front ∷ K) rest)
     pub whole : put_in front last ≡ items_of limit es d
+
+  -- the clause of a `case` stands before the last expression of its body is put in
+  pub record Branched (p : Place) (a : Part) (done : Group) (K : List Frame) (ts rest : List Token) (cs : Clauses) (c : ℕ) : Type 0 where
+    pub pattern : Part
+    pub front : Parts
+    pub last : Part
+    pub level : ℕ
+    pub steps : Steps all limit (st Need (InPattern p a done ∷ K) ts) (st (Have last level) (InList (branch_of p a done pattern) front ∷ K) rest)
+    pub whole : put_branch done pattern (put_in front last) ≡ group_of limit cs c
 
   mutual
     pub reads : (e : Tree) (k d : ℕ) (ts : List Token) → Spells all e k d ts → (K : List Frame) (rest : List Token) → least K ≤ k → (k ≤ match_level → Stops (look all rest))
@@ -235,6 +254,16 @@ module _ (all : Texts) (limit : ℕ) where
         regroup : (ms fs xs : List Token) (p q r : Place) (rest : List Token)
             → (ms ++ symbol sy.Colon p ∷ (fs ++ symbol sy.LeftParen q ∷ (xs ++ symbol sy.RightParen r ∷ []))) ++ rest ≡ ms ++ symbol sy.Colon p ∷ (fs ++ symbol sy.LeftParen q ∷ (xs ++ symbol sy.RightParen r ∷ rest))
         regroup ms fs xs p q r rest = simp append_assoc refl
+    reads e k d ts (a_case e' cs k' d' g p q r xs bs h hs) K rest m s =
+        subst (λ z. Steps all limit (st Need K (keyword word.Case p ∷ z)) (st (Have (part_of limit p (tree p (case_of e' cs)) (suc (max d' g))) max_level) K rest)) (sym (regroup xs bs q r rest))
+        (takes _ _ _ (InCase p ∷ K) _ _ _ refl
+        (after _ _ _ (reads e' k' d' xs h (InCase p ∷ K) (keyword word.Of q ∷ (bs ++ keyword word.End r ∷ rest)) (omega arith) (λ low. tt))
+        (takes _ _ _ (InPattern p (part_of limit (start_of xs) e' d') (no_group limit) ∷ K) _ _ _ refl
+        (reads_branches cs g bs hs no_clauses 0 p (part_of limit (start_of xs) e' d') K r rest _ (ends_case limit p (start_of xs) e' cs d' g K)))))
+      where
+        regroup : (xs bs : List Token) (q r : Place) (rest : List Token)
+            → (xs ++ keyword word.Of q ∷ (bs ++ keyword word.End r ∷ [])) ++ rest ≡ xs ++ keyword word.Of q ∷ (bs ++ keyword word.End r ∷ rest)
+        regroup xs bs q r rest = simp append_assoc refl
 
     -- a list and the bracket behind it
     reads_all : (es : Trees) (d : ℕ) (ts : List Token) → SpellsAll all es d ts → (b : Bracket) (o : Opener) (K : List Frame) (q : Place) (rest : List Token) (n : Mode) (L : List Frame)
@@ -269,6 +298,44 @@ module _ (all : Texts) (limit : ℕ) where
               (takes _ _ _ _ _ _ _ (ap (λ z. Take Need (InList o z ∷ K)) (put_in_is limit (start_of ts') done e f d')) l.steps));
           whole = l.whole ∙ ap (λ z. items_of limit z (max (max f d') g)) (joined done es' e) ∙ ap (items_of limit (join done (more e es'))) (max_regroup f d' g);
         }
+
+    reads_branch : (o : Place) (ps es : Trees) (d : ℕ) (ts : List Token) → SpellsBranch all o ps es d ts → (done : Clauses) (f : ℕ) (p : Place) (a : Part) (K : List Frame) (rest : List Token) → Stops (look all rest)
+        → Branched p a (group_of limit done f) K (ts ++ rest) rest (add_clause done o ps es) (max f d)
+    reads_branch o ps es d ts (a_branch l es' k d' g w ls ys s ss) done f p a K rest stops =
+        let pattern : Part = part_of limit (start_of ls) l d' in
+        let body : Opener = branch_of p a (group_of limit done f) pattern in
+        let items : Listed body (items_of limit end 0) K (ys ++ rest) rest es' (max 0 g) = reads_some es' g ys ss end 0 body K rest stops in
+        record {
+          pattern = pattern;
+          front = items.front;
+          last = items.last;
+          level = items.level;
+          steps =
+              subst (λ z. Steps all limit (st Need (InPattern p a (group_of limit done f) ∷ K) z) (st (Have items.last items.level) (InList body items.front ∷ K) rest)) (sym (append_assoc ls (symbol sy.Arrow w ∷ ys) rest))
+              (after _ _ _ (reads l k d' ls s (InPattern p a (group_of limit done f) ∷ K) (symbol sy.Arrow w ∷ (ys ++ rest)) (omega arith) (λ low. tt))
+              (takes _ _ _ _ _ _ _ refl items.steps));
+          whole = ap (put_branch (group_of limit done f) pattern) (items.whole ∙ ap (items_of limit es') (zero_max g)) ∙ put_branch_is limit (start_of ls) done l es' f d' g;
+        }
+
+    -- the clauses of a `case`, and the word behind them
+    reads_branches : (cs : Clauses) (d : ℕ) (ts : List Token) → SpellsBranches all cs d ts → (done : Clauses) (f : ℕ) (p : Place) (a : Part) (K : List Frame) (q : Place) (rest : List Token) (n : Mode)
+        → Take (Have (chosen limit p a (group_of limit (join_clauses done cs) (max f d))) max_level) K ≡ Take n K
+        → Steps all limit (st Need (InPattern p a (group_of limit done f) ∷ K) (ts ++ keyword word.End q ∷ rest)) (st n K rest)
+    reads_branches cs d ts (one_branch o ps es d' ts' s) done f p a K q rest n e =
+        let b : Branched p a (group_of limit done f) K (ts' ++ keyword word.End q ∷ rest) (keyword word.End q ∷ rest) (add_clause done o ps es) (max f d') =
+        reads_branch o ps es d' ts' s done f p a K (keyword word.End q ∷ rest) tt in
+        after _ _ _ b.steps
+        (takes _ n _ K _ _ _ (ap (λ z. Take (Have (chosen limit p a z) max_level) K) (b.whole ∙ ap (λ z. group_of limit z (max f d')) (add_join_clauses done o ps es)) ∙ e) (here _))
+    reads_branches cs d ts (and_branches o ps es cs' d' g w ts' us s ss) done f p a K q rest n e =
+        let b : Branched p a (group_of limit done f) K (ts' ++ symbol sy.Semicolon w ∷ (us ++ keyword word.End q ∷ rest)) (symbol sy.Semicolon w ∷ (us ++ keyword word.End q ∷ rest)) (add_clause done o ps es) (max f d') =
+        reads_branch o ps es d' ts' s done f p a K (symbol sy.Semicolon w ∷ (us ++ keyword word.End q ∷ rest)) tt in
+        subst (λ z. Steps all limit (st Need (InPattern p a (group_of limit done f) ∷ K) z) (st n K rest)) (sym (append_assoc ts' (symbol sy.Semicolon w ∷ us) (keyword word.End q ∷ rest)))
+        (after _ _ _ b.steps
+        (takes _ Need _ (InPattern p a (group_of limit (add_clause done o ps es) (max f d')) ∷ K) _ _ _ (ap (λ z. Take Need (InPattern p a z ∷ K)) b.whole)
+        (reads_branches cs' g us ss (add_clause done o ps es) (max f d') p a K q rest n
+        (ap (λ z. Take (Have (chosen limit p a z) max_level) K)
+        (ap (λ z. group_of limit z (max (max f d') g)) (joined_clauses done cs' o ps es) ∙ ap (group_of limit (join_clauses done (clause o ps no_guard es cs'))) (max_regroup f d' g))
+        ∙ e))))
 
   -- ---- clauses
 

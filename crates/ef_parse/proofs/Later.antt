@@ -7,7 +7,7 @@ use Rattle.ef_token.specs.declared.token.Token.{Token}
 use Rattle.ef_token.specs.TokenForm.{TokensOf}
 use Rattle.ef_forms.specs.Tree.{Tree, Trees, Clauses}
 use Rattle.ef_forms.proofs.Built.{Agree, text_later}
-use Rattle.ef_parse.specs.Grammar.{Spells, SpellsAll, SpellsSome, SpellsClause, SpellsClauses, max_level, a_variable, an_underscore, an_atom, an_integer, parentheses, a_list, a_list_to, a_tuple, a_match, a_call, a_remote, nothing, some, one, and_more, a_clause, one_clause, and_clauses}
+use Rattle.ef_parse.specs.Grammar.{Spells, SpellsAll, SpellsSome, SpellsBranch, SpellsBranches, SpellsClause, SpellsClauses, max_level, a_variable, an_underscore, an_atom, an_integer, parentheses, a_list, a_list_to, a_tuple, a_match, a_call, a_remote, a_case, nothing, some, one, and_more, a_branch, one_branch, and_branches, a_clause, one_clause, and_clauses}
 use Rattle.ef_parse.proofs.OfTable.{first, second}
 
 module _ (now a b : Texts) (agree : Agree now a b) where
@@ -29,6 +29,8 @@ module _ (now a b : Texts) (agree : Agree now a b) where
     spells e k d ts (a_remote m f args c d' g p q r ms fs xs s s' ss) h =
         a_remote m f args c d' g p q r ms fs xs (spells m max_level c ms s (first now ms _ h)) (spells f max_level d' fs s' (first now fs _ (second now ms _ h).1))
         (spells_all args g xs ss (first now xs _ (second now fs _ (second now ms _ h).1).1))
+    spells e k d ts (a_case e' cs k' d' g p q r xs bs s ss) h =
+        a_case e' cs k' d' g p q r xs bs (spells e' k' d' xs s (first now xs _ h.1)) (spells_branches cs g bs ss (first now bs _ (second now xs _ h.1).1))
 
     spells_all : (es : Trees) (d : ℕ) (ts : List Token) → SpellsAll a es d ts → TokensOf now ts → SpellsAll b es d ts
     spells_all es d ts nothing h = nothing
@@ -38,6 +40,15 @@ module _ (now a b : Texts) (agree : Agree now a b) where
     spells_some es d ts (one e k d' ts' s) h = one e k d' ts' (spells e k d' ts' s h)
     spells_some es d ts (and_more e es' k d' g p ts' us s ss) h =
         and_more e es' k d' g p ts' us (spells e k d' ts' s (first now ts' _ h)) (spells_some es' g us ss (second now ts' _ h).1)
+
+    spells_branch : (p : Place) (ps es : Trees) (d : ℕ) (ts : List Token) → SpellsBranch a p ps es d ts → TokensOf now ts → SpellsBranch b p ps es d ts
+    spells_branch p ps es d ts (a_branch l es' k d' g q ls ys s ss) h =
+        a_branch l es' k d' g q ls ys (spells l k d' ls s (first now ls _ h)) (spells_some es' g ys ss (second now ls _ h).1)
+
+    spells_branches : (cs : Clauses) (d : ℕ) (ts : List Token) → SpellsBranches a cs d ts → TokensOf now ts → SpellsBranches b cs d ts
+    spells_branches cs d ts (one_branch p ps es d' ts' s) h = one_branch p ps es d' ts' (spells_branch p ps es d' ts' s h)
+    spells_branches cs d ts (and_branches p ps es cs' d' g q ts' us s ss) h =
+        and_branches p ps es cs' d' g q ts' us (spells_branch p ps es d' ts' s (first now ts' _ h)) (spells_branches cs' g us ss (second now ts' _ h).1)
 
   spells_clause : (n : Name) (p : Place) (ps es : Trees) (d : ℕ) (ts : List Token) → SpellsClause a n p ps es d ts → TokensOf now ts → SpellsClause b n p ps es d ts
   spells_clause n p ps es d ts (a_clause n' ps' es' c g p' q r s xs ys ss ss') h =

@@ -2,11 +2,12 @@
 use Rattle.std.proofs.Common.{◌≡◌, ℕ, zero, suc, ◌<◌, List, [], ◌∷◌, ◌++◌, sym, subst, arith, length, get_or}
 use Rattle.ef_base.specs.Texts.{Texts}
 use Rattle.ef_base.specs.declared.name.Name.{Name}
+use Rattle.ef_base.specs.declared.fault.Place.{Place}
 use Rattle.ef_token.specs.declared.token.Token.{Token}
 use Rattle.ef_token.specs.TokenForm.{KindOf, TokensOf}
 use Rattle.ef_forms.specs.Tree.{Tree, Trees, Clauses}
 use Rattle.ef_forms.specs.OfTable.{TreeOf, TreesOf, ClausesOf}
-use Rattle.ef_parse.specs.Grammar.{Spells, SpellsAll, SpellsSome, SpellsClauses, max_level, a_variable, an_underscore, an_atom, an_integer, parentheses, a_list, a_list_to, a_tuple, a_match, a_call, a_remote, nothing, some, one, and_more, a_clause, one_clause, and_clauses}
+use Rattle.ef_parse.specs.Grammar.{Spells, SpellsAll, SpellsSome, SpellsBranch, SpellsBranches, SpellsClauses, max_level, a_variable, an_underscore, an_atom, an_integer, parentheses, a_list, a_list_to, a_tuple, a_match, a_call, a_remote, a_case, nothing, some, one, and_more, a_branch, one_branch, and_branches, a_clause, one_clause, and_clauses}
 
 module _ (all : Texts) where
   pub first : (ts us : List Token) → TokensOf all (ts ++ us) → TokensOf all ts
@@ -44,6 +45,8 @@ module _ (texts all : Texts) where
         (tree_of f max_level d' fs s (first all fs _ h), trees_of args g xs ss (first all xs _ (second all fs _ h).1))
     tree_of e k d ts (a_remote m f args c d' g p q r ms fs xs s s' ss) h =
         (tree_of m max_level c ms s (first all ms _ h), tree_of f max_level d' fs s' (first all fs _ (second all ms _ h).1), trees_of args g xs ss (first all xs _ (second all fs _ (second all ms _ h).1).1))
+    tree_of e k d ts (a_case e' cs k' d' g p q r xs bs s ss) h =
+        (tree_of e' k' d' xs s (first all xs _ h.1), branches_of cs g bs ss (first all bs _ (second all xs _ h.1).1))
 
     pub trees_of : (es : Trees) (d : ℕ) (ts : List Token) → SpellsAll texts es d ts → TokensOf all ts → TreesOf all es
     trees_of es d ts nothing h = tt
@@ -53,6 +56,16 @@ module _ (texts all : Texts) where
     some_of es d ts (one e k d' ts' s) h = (tree_of e k d' ts' s h, tt)
     some_of es d ts (and_more e es' k d' g p ts' us s ss) h =
         (tree_of e k d' ts' s (first all ts' _ h), some_of es' g us ss (second all ts' _ h).1)
+
+    branch_of : (p : Place) (ps es : Trees) (d : ℕ) (ts : List Token) → SpellsBranch texts p ps es d ts → TokensOf all ts → TreesOf all ps × TreesOf all es
+    branch_of p ps es d ts (a_branch l es' k d' g q ls ys s ss) h =
+        ((tree_of l k d' ls s (first all ls _ h), tt), some_of es' g ys ss (second all ls _ h).1)
+
+    branches_of : (cs : Clauses) (d : ℕ) (ts : List Token) → SpellsBranches texts cs d ts → TokensOf all ts → ClausesOf all cs
+    branches_of cs d ts (one_branch p ps es d' ts' s) h =
+        let here = branch_of p ps es d' ts' s h in (here.0, tt, here.1, tt)
+    branches_of cs d ts (and_branches p ps es cs' d' g q ts' us s ss) h =
+        let here = branch_of p ps es d' ts' s (first all ts' _ h) in (here.0, tt, here.1, branches_of cs' g us ss (second all ts' _ h).1)
 
   pub clauses_of : (n : Name) (cs : Clauses) (d : ℕ) (ts : List Token) → SpellsClauses texts n cs d ts → TokensOf all ts → ClausesOf all cs
   clauses_of n cs d ts (one_clause n' p ps es d' ts' (a_clause n'' ps' es' c g p' q r s xs ys ss ss')) h =

@@ -8,9 +8,10 @@ use Rattle.ef_base.specs.Texts.{Texts}
 use Rattle.ef_token.specs.declared.token.Token.{Token}
 use Rattle.ef_token.specs.declared.token.TokenKind.TheVariants as kind
 use Rattle.ef_token.specs.declared.word.Sym.TheVariants as sy
+use Rattle.ef_token.specs.declared.word.Word.TheVariants as word
 use Rattle.ef_forms.specs.Tree.{Tree, Trees, Clauses, end, more, no_guard, no_clauses, clause}
-use Rattle.ef_parse.specs.Grammar.{token, symbol, start_of, match_level, max_level, Spells, SpellsAll, SpellsSome, SpellsClause, SpellsClauses, a_variable, an_underscore, an_atom, an_integer, parentheses, a_list, a_list_to, a_tuple, a_match, a_call, a_remote, nothing, one, and_more, one_clause, and_clauses}
-use Rattle.ef_parse.specs.Machine.{Part, Group, deep_all, built_all, Opener, call_of, remote_of, list_at, tuple_at, head_of, body_of, Frame, InParens, AfterColon, AfterMatch, InList, InTail, Mode, Need, Have, NeedName, NeedHead, NeedArrow, Outcome, Expression, Function, Refused, Move, Keep, Take, Over, State, add, add_clause, is_none, part_of, items_of, group_of, none}
+use Rattle.ef_parse.specs.Grammar.{token, symbol, keyword, start_of, match_level, max_level, Spells, SpellsAll, SpellsSome, SpellsBranch, SpellsBranches, SpellsClause, SpellsClauses, a_variable, an_underscore, an_atom, an_integer, parentheses, a_list, a_list_to, a_tuple, a_match, a_call, a_remote, a_case, nothing, one, and_more, one_branch, and_branches, one_clause, and_clauses}
+use Rattle.ef_parse.specs.Machine.{Part, Group, deep_all, built_all, Opener, call_of, remote_of, list_at, tuple_at, head_of, body_of, branch_of, Frame, InParens, AfterColon, AfterMatch, InList, InTail, InCase, InPattern, Mode, Need, Have, NeedName, NeedHead, NeedArrow, Outcome, Expression, Function, Refused, Move, Keep, Take, Over, State, add, add_clause, is_none, part_of, items_of, group_of, none}
 use Rattle.ef_parse.proofs.Complete.{max_regroup, zero_max}
 
 module _ (all : Texts) where
@@ -23,6 +24,11 @@ module _ (all : Texts) where
   pub data Before : Name → Clauses → ℕ → List Token → Type 0 where
     none_before : (n : Name) → Before n no_clauses 0 []
     semicolon_after : (n : Name) (cs : Clauses) (d : ℕ) (ts : List Token) (p : Place) → SpellsClauses all n cs d ts → Before n cs d (ts ++ symbol sy.Semicolon p ∷ [])
+
+  -- clauses of a `case` with a semicolon behind each
+  pub data Branches : Clauses → ℕ → List Token → Type 0 where
+    no_branches : Branches no_clauses 0 []
+    branches_before : (cs : Clauses) (d : ℕ) (ts : List Token) (p : Place) → SpellsBranches all cs d ts → Branches cs d (ts ++ symbol sy.Semicolon p ∷ [])
 
   -- ---- lists
 
@@ -68,6 +74,24 @@ module _ (all : Texts) where
   finish_clauses n cs d ts (semicolon_after n' cs' d' ts' q g) p ps es f us h =
       subst (SpellsClauses all n' (add_clause cs' p ps es) (max d' f)) (sym (append_assoc ts' (symbol sy.Semicolon q ∷ []) us)) (grow_clauses n' cs' d' ts' q g p ps es f us h)
 
+  -- ---- clauses of a `case`
+
+  grow_branches : (cs : Clauses) (d : ℕ) (ts : List Token) (q : Place) → SpellsBranches all cs d ts → (p : Place) (ps es : Trees) (f : ℕ) (us : List Token) → SpellsBranch all p ps es f us
+      → SpellsBranches all (add_clause cs p ps es) (max d f) (ts ++ symbol sy.Semicolon q ∷ us)
+  grow_branches cs d ts q (one_branch o qs fs d' ts' g) p ps es f us h =
+      and_branches o qs fs (clause p ps no_guard es no_clauses) d' f q ts' us g (one_branch p ps es f us h)
+  grow_branches cs d ts q (and_branches o qs fs cs' d' f' r ts' us' g g') p ps es f us h =
+      subst (SpellsBranches all (clause o qs no_guard fs (add_clause cs' p ps es)) (max (max d' f') f)) (sym (append_assoc ts' (symbol sy.Semicolon r ∷ us') (symbol sy.Semicolon q ∷ us)))
+      (subst (λ m. SpellsBranches all (clause o qs no_guard fs (add_clause cs' p ps es)) m (ts' ++ symbol sy.Semicolon r ∷ (us' ++ symbol sy.Semicolon q ∷ us))) (sym (max_regroup d' f' f))
+      (and_branches o qs fs (add_clause cs' p ps es) d' (max f' f) r ts' (us' ++ symbol sy.Semicolon q ∷ us) g (grow_branches cs' f' us' q g' p ps es f us h)))
+
+  pub finish_branches : (cs : Clauses) (d : ℕ) (ts : List Token) → Branches cs d ts → (p : Place) (ps es : Trees) (f : ℕ) (us : List Token) → SpellsBranch all p ps es f us
+      → SpellsBranches all (add_clause cs p ps es) (max d f) (ts ++ us)
+  finish_branches cs d ts no_branches p ps es f us h =
+      subst (λ m. SpellsBranches all (clause p ps no_guard es no_clauses) m us) (sym (zero_max f)) (one_branch p ps es f us h)
+  finish_branches cs d ts (branches_before cs' d' ts' q g) p ps es f us h =
+      subst (SpellsBranches all (add_clause cs' p ps es) (max d' f)) (sym (append_assoc ts' (symbol sy.Semicolon q ∷ []) us)) (grow_branches cs' d' ts' q g p ps es f us h)
+
   -- ---- levels
 
   level_max : (e : Tree) (k d : ℕ) (ts : List Token) → Spells all e k d ts → k ≤ max_level
@@ -82,6 +106,7 @@ module _ (all : Texts) where
   level_max e k d ts (a_match l e' j k' d' g p ls es low h h') = omega arith
   level_max e k d ts (a_call f args d' g p q fs xs h hs) = omega arith
   level_max e k d ts (a_remote m f args c d' g p q r ms fs xs h h' hs) = omega arith
+  level_max e k d ts (a_case e' cs k' d' g p q r xs bs h hs) = omega arith
 
   pub full : (e : Tree) (k d : ℕ) (ts : List Token) → Spells all e k d ts → nat_le max_level k ≡ true → Spells all e max_level d ts
   full e k d ts s q =
@@ -105,6 +130,9 @@ module _ (all : Texts) (limit : ℕ) where
           → Open (InList o (items_of limit es d) ∷ K) (ts ++ us)
       in_tail : (K : List Frame) (ts us : List Token) (es : Trees) (d : ℕ) (p q : Place) → Open K ts → SpellsSome all es d us
           → Open (InTail p (items_of limit es d) ∷ K) (ts ++ (symbol sy.LeftBracket p ∷ (us ++ symbol sy.Bar q ∷ [])))
+      in_case : (K : List Frame) (ts : List Token) (p : Place) → Open K ts → Open (InCase p ∷ K) (ts ++ keyword word.Case p ∷ [])
+      in_pattern : (K : List Frame) (ts xs bs : List Token) (e : Tree) (k d : ℕ) (cs : Clauses) (c : ℕ) (p q : Place) → Open K ts → Spells all e k d xs → Branches all cs c bs
+          → Open (InPattern p (part_of limit (start_of xs) e d) (group_of limit cs c) ∷ K) (ts ++ (keyword word.Case p ∷ (xs ++ keyword word.Of q ∷ bs)))
 
     pub data Opened : Opener → List Frame → List Token → Type 0 where
       for_call : (K : List Frame) (ts fs : List Token) (f : Tree) (d : ℕ) (p : Place) → Open K ts → Spells all f max_level d fs
@@ -117,6 +145,8 @@ module _ (all : Texts) (limit : ℕ) where
           → Opened (head_of n (group_of limit cs c) p) [] (bs ++ (token (kind.Atom n) p ∷ symbol sy.LeftParen q ∷ []))
       for_body : (n : Name) (cs : Clauses) (c : ℕ) (bs : List Token) (p q r s : Place) (xs : List Token) (ps : Trees) (d : ℕ) → Before all n cs c bs → SpellsAll all ps d xs
           → Opened (body_of n (group_of limit cs c) p (items_of limit ps d)) [] (bs ++ (token (kind.Atom n) p ∷ symbol sy.LeftParen q ∷ (xs ++ symbol sy.RightParen r ∷ symbol sy.Arrow s ∷ [])))
+      for_branch : (p : Place) (a : Part) (g : Group) (K : List Frame) (ts ls : List Token) (l : Tree) (j d : ℕ) (q : Place) → Open (InPattern p a g ∷ K) ts → Spells all l j d ls
+          → Opened (branch_of p a g (part_of limit (start_of ls) l d)) K (ts ++ (ls ++ symbol sy.Arrow q ∷ []))
 
   -- an expression of this level at the end
   pub record HeldPart (p : Part) (k : ℕ) (K : List Frame) (ts : List Token) : Type 0 where

@@ -3,8 +3,8 @@ use Rattle.std.proofs.Common.{◌≡◌, ℕ, suc, ◌≤◌, ◌<◌, max, true
 use Rattle.std.specs.Prelude.{nat_le, nat_lt, ◌⊎◌}
 use Rattle.std.proofs.lemmas.Bool.Decides.{nat_tests}
 use Rattle.ef_base.specs.declared.fault.Place.{Place}
-use Rattle.ef_forms.specs.Tree.{Tree, Shape, Trees, Clauses, tree, list_to, matching, call, remote, end}
-use Rattle.ef_parse.specs.Machine.{Part, Parts, Group, built, deep, built_all, deep_all, built_clauses, deep_clauses, part_of, items_of, group_of, parenthesised, enclosed, tailed, matched, called, called_in, put_in, put_clause, add, add_clause, none, is_none}
+use Rattle.ef_forms.specs.Tree.{Tree, Shape, Trees, Clauses, tree, list_to, matching, call, remote, case_of, end, more}
+use Rattle.ef_parse.specs.Machine.{Part, Parts, Group, built, deep, built_all, deep_all, built_clauses, deep_clauses, part_of, items_of, group_of, parenthesised, enclosed, tailed, matched, called, called_in, chosen, put_in, put_clause, put_branch, add, add_clause, none, is_none}
 
 pub le_true : (a b : ℕ) → a ≤ b → nat_le a b ≡ true
 le_true a b h = grind (arith, nat_tests)
@@ -71,6 +71,14 @@ no_body (built_clauses bs c) p (built_all es d) = refl
 no_body (built_clauses bs c) p deep_all = refl
 no_body deep_clauses p ps = refl
 
+no_clauses_before : (l : Part) (es : Parts) → put_branch deep_clauses l es ≡ deep_clauses
+no_clauses_before (built p l d) es = refl
+no_clauses_before deep es = refl
+
+no_body_of : (cs : Group) (l : Part) → put_branch cs l deep_all ≡ deep_clauses
+no_body_of cs (built p l d) = no_body cs p (built_all (more l end) d)
+no_body_of cs deep = refl
+
 module _ (limit : ℕ) where
   no_args : (p : Part) → called limit p deep_all ≡ deep
   no_args (built p e d) = refl
@@ -92,6 +100,10 @@ module _ (limit : ℕ) where
   no_right : (l : Part) → matched limit l deep ≡ deep
   no_right (built p e d) = refl
   no_right deep = refl
+
+  no_branches : (p : Place) (e : Part) → chosen limit p e deep_clauses ≡ deep
+  no_branches p (built q e d) = refl
+  no_branches p deep = refl
 
   -- ---- the equations
 
@@ -136,6 +148,12 @@ module _ (limit : ℕ) where
       c d g (suc (max c (max d g))) (omega arith) (omega arith) (omega arith)
       (λ h h' h''. refl) (λ y z. refl) no_function no_args_in
 
+  pub chosen_is : (p q : Place) (e : Tree) (cs : Clauses) (d g : ℕ)
+      → chosen limit p (part_of limit q e d) (group_of limit cs g) ≡ part_of limit p (tree p (case_of e cs)) (suc (max d g))
+  chosen_is p q e cs d g =
+      of_two limit (chosen limit p) (built q e d) deep (built_clauses cs g) deep_clauses (built p (tree p (case_of e cs)) (suc (max d g))) deep d g (suc (max d g)) (omega arith) (omega arith)
+      (λ h h'. refl) (λ y. refl) (no_branches p)
+
   pub put_in_is : (p : Place) (es : Trees) (e : Tree) (d g : ℕ) → put_in (items_of limit es d) (part_of limit p e g) ≡ items_of limit (add es e) (max d g)
   put_in_is p es e d g =
       of_two limit put_in (built_all es d) deep_all (built p e g) deep (built_all (add es e) (max d g)) deep_all d g (max d g) (omega arith) (omega arith)
@@ -148,3 +166,11 @@ module _ (limit : ℕ) where
       c d g (max c (max d g)) (omega arith) (omega arith) (omega arith)
       (λ h h' h''. sym (kept limit (max c (max d g)) (built_clauses (add_clause cs p ps es) (max c (max d g))) deep_clauses (omega arith)))
       (λ y z. refl) (λ x z. no_patterns x p z) (λ x y. no_body x p y)
+
+  pub put_branch_is : (p : Place) (cs : Clauses) (l : Tree) (es : Trees) (c d g : ℕ)
+      → put_branch (group_of limit cs c) (part_of limit p l d) (items_of limit es g) ≡ group_of limit (add_clause cs p (more l end) es) (max c (max d g))
+  put_branch_is p cs l es c d g =
+      of_three limit put_branch (built_clauses cs c) deep_clauses (built p l d) deep (built_all es g) deep_all (built_clauses (add_clause cs p (more l end) es) (max c (max d g))) deep_clauses
+      c d g (max c (max d g)) (omega arith) (omega arith) (omega arith)
+      (λ h h' h''. sym (kept limit (max c (max d g)) (built_clauses (add_clause cs p (more l end) es) (max c (max d g))) deep_clauses (omega arith)))
+      no_clauses_before (λ x z. refl) no_body_of

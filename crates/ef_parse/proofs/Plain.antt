@@ -1,7 +1,11 @@
 -- One more tree, and one more clause, at the end of a list.
-use Rattle.std.proofs.Common.{◌≡◌, List, [], ◌∷◌, ◌++◌, refl, ap}
+use Rattle.std.proofs.Common.{◌≡◌, List, [], ◌∷◌, ◌++◌, refl, ap, ◌∙◌, Vec}
+use Rattle.std.specs.declared.alloc.Global.{Global}
+use Rattle.ef_base.specs.declared.fault.Place.{Place}
 use Rattle.ef_forms.specs.declared.expr.Expr.{Expr}
-use Rattle.ef_forms.specs.declared.expr.Clause.{Clause}
+use Rattle.ef_forms.specs.declared.expr.Clause.{Clause, out-Clause, roll-Clause, out-roll-Clause}
+use Rattle.ef_forms.specs.declared.expr.Node.{Node}
+use Rattle.ef_forms.specs.declared.expr.Node.TheOpen.{Clause-F}
 use Rattle.ef_forms.specs.Tree.{more, clause, no_clauses}
 use Rattle.ef_forms.specs.Plain.{plain, plain_all, plain_guard, plain_clauses}
 use Rattle.ef_forms.proofs.Plain as p
@@ -11,10 +15,18 @@ pub plain_add : (es : List Expr) (e : Expr) → plain_all (es ++ e ∷ []) ≡ a
 plain_add [] e = refl
 plain_add (x ∷ es) e = ap (λ z. more (plain x) z) (plain_add es e)
 
--- a clause without a guard
-pub plain_add_clause : (cs : List Clause) (c : Clause) → c.guard.items ≡ []
-    → plain_clauses (cs ++ c ∷ []) ≡ add_clause (plain_clauses cs) c.place (plain_all c.patterns.items) (plain_all c.body.items)
-plain_add_clause [] c bare = ap (λ z. clause c.place (plain_all c.patterns.items) (plain_guard z) (plain_all c.body.items) no_clauses) bare
-plain_add_clause (b ∷ cs) c bare = ap (λ z. clause b.place (plain_all b.patterns.items) (plain_guard b.guard.items) (plain_all b.body.items) z) (plain_add_clause cs c bare)
+add_bare : (cs : List Clause) (c : Clause) → (out-Clause c).guard.items ≡ []
+    → plain_clauses (cs ++ c ∷ []) ≡ add_clause (plain_clauses cs) (out-Clause c).place (plain_all (out-Clause c).patterns.items) (plain_all (out-Clause c).body.items)
+add_bare [] c bare = ap (λ z. clause (out-Clause c).place (plain_all (out-Clause c).patterns.items) (plain_guard z) (plain_all (out-Clause c).body.items) no_clauses) bare
+add_bare (b ∷ cs) c bare =
+    ap (λ z. clause (out-Clause b).place (plain_all (out-Clause b).patterns.items) (plain_guard (out-Clause b).guard.items) (plain_all (out-Clause b).body.items) z) (add_bare cs c bare)
 
-pub ruleset laws = (p.plain_expr, p.plain_int, p.plain_atom, p.plain_var, p.plain_any, p.plain_list, p.plain_list_to, p.plain_tuple, p.plain_match, p.plain_call, p.plain_remote, plain_add, plain_add_clause)
+-- a clause without a guard
+pub plain_add_clause : (cs : List Clause) (p : Place) (ps : Vec Expr Global) (g : Vec (Vec Expr Global) Global) (es : Vec Expr Global) → g.items ≡ []
+    → plain_clauses (cs ++ roll-Clause (record { place = p; patterns = ps; guard = g; body = es }) ∷ []) ≡ add_clause (plain_clauses cs) p (plain_all ps.items) (plain_all es.items)
+plain_add_clause cs p ps g es bare =
+    let layer : Clause-F Node Clause Expr = record { place = p; patterns = ps; guard = g; body = es } in
+    add_bare cs (roll-Clause layer) (ap (λ (z : Clause-F Node Clause Expr). z.guard.items) (out-roll-Clause layer) ∙ bare)
+    ∙ ap (λ (z : Clause-F Node Clause Expr). add_clause (plain_clauses cs) z.place (plain_all z.patterns.items) (plain_all z.body.items)) (out-roll-Clause layer)
+
+pub ruleset laws = (p.plain_expr, p.plain_int, p.plain_atom, p.plain_var, p.plain_any, p.plain_list, p.plain_list_to, p.plain_tuple, p.plain_match, p.plain_call, p.plain_remote, p.plain_case, plain_add, plain_add_clause)

@@ -12,7 +12,7 @@ use Rattle.ef_parse.specs.declared.ahead.Ahead.TheVariants as ahead
 use Rattle.ef_parse.specs.declared.ahead.Bracket.{Bracket}
 use Rattle.ef_parse.specs.declared.ahead.Bracket.TheVariants as bracket
 use Rattle.ef_parse.specs.Grammar.{start_of, match_level, max_level}
-use Rattle.ef_parse.specs.Machine.{Part, Parts, Group, none, Opener, call_of, remote_of, list_at, tuple_at, head_of, body_of, Frame, InParens, AfterColon, AfterMatch, InList, InTail, Mode, Need, Have, NeedName, NeedHead, NeedArrow, Move, Keep, Take, Over, Refused, State, Go, st, tail, apply, look, put_in, is_none, ended, ended_empty, barred, followed, finished, listed, unwrapped, tail_read, whole, close, opened, pushed, go_on, begin, named, headed, pointed, move, Steps, here, then_on}
+use Rattle.ef_parse.specs.Machine.{Part, Parts, Group, none, Opener, call_of, remote_of, list_at, tuple_at, head_of, body_of, branch_of, Frame, InParens, AfterColon, AfterMatch, InList, InTail, InCase, InPattern, Mode, Need, Have, NeedName, NeedHead, NeedArrow, Move, Keep, Take, Over, Refused, State, Go, st, tail, apply, look, put_in, is_none, ended, ended_empty, barred, followed, concluded, finished, listed, unwrapped, tail_read, argued, pattern_read, whole, close, opened, pushed, go_on, begin, named, headed, pointed, move, Steps, here, then_on}
 use Rattle.ef_parse.specs.declared.frame.Frame.{Frame as Kept}
 use Rattle.ef_parse.specs.Shown.{frame, frames}
 use Rattle.ef_parse.proofs.Complete.{after}
@@ -20,19 +20,22 @@ use Rattle.ef_parse.proofs.Complete.{after}
 module _ (limit : ℕ) where
   -- ---- a token is taken where one is left
 
-  at_end : (m : Mode) (K : List Frame) (p : Place) (n : Mode) (L : List Frame) → move limit m K ahead.End p ≡ Take n L → ⊥
+  at_end : (m : Mode) (K : List Frame) (p : Place) (n : Mode) (L : List Frame) → move limit m K ahead.Nothing p ≡ Take n L → ⊥
   at_end Need K p n L e = cc
   at_end (Have q k) [] p n L e = cc
   at_end (Have q k) (InParens r ∷ K) p n L e = cc
   at_end (Have q k) (AfterColon r ∷ K) p n L e = cc
   at_end (Have q k) (AfterMatch l ∷ K) p n L e = cc
   at_end (Have q k) (InTail r es ∷ K) p n L e = cc
+  at_end (Have q k) (InCase r ∷ K) p n L e = cc
+  at_end (Have q k) (InPattern r a g ∷ K) p n L e = cc
   at_end (Have q k) (InList (call_of f) es ∷ K) p n L e = cc
   at_end (Have q k) (InList (remote_of r f) es ∷ K) p n L e = cc
   at_end (Have q k) (InList (list_at r) es ∷ K) p n L e = cc
   at_end (Have q k) (InList (tuple_at r) es ∷ K) p n L e = cc
   at_end (Have q k) (InList (head_of m g r) es ∷ K) p n L e = cc
   at_end (Have q k) (InList (body_of m g r ps) es ∷ K) p n L e = cc
+  at_end (Have q k) (InList (branch_of r a g l) es ∷ K) p n L e = cc
   at_end (NeedName m g) K p n L e = cc
   at_end NeedHead K p n L e = cc
   at_end NeedArrow K p n L e = cc
@@ -62,7 +65,12 @@ module _ (limit : ℕ) where
 
   bounded_followed : (o : Opener) (es : Parts) (K : List Frame) → Bounded (suc (length K)) (followed limit o es K)
   bounded_followed (body_of n g p ps) es K = omega arith
+  bounded_followed (branch_of p a g l) es K = omega arith
   bounded_followed _ es K = tt
+
+  bounded_concluded : (o : Opener) (es : Parts) (K : List Frame) → Bounded (suc (length K)) (concluded limit o es K)
+  bounded_concluded (branch_of p a g l) es K = omega arith
+  bounded_concluded _ es K = tt
 
   bounded_finished : (n : ℕ) (o : Opener) (es : Parts) → Bounded n (finished limit o es)
   bounded_finished n (body_of m g p ps) es = tt
@@ -73,7 +81,8 @@ module _ (limit : ℕ) where
   bounded_listed o es K (ahead.Close b) = bounded_ended b o es K
   bounded_listed o es K ahead.Bar = bounded_barred o es K
   bounded_listed o es K ahead.Semicolon = bounded_followed o es K
-  bounded_listed o es K ahead.End = bounded_finished (suc (length K)) o es
+  bounded_listed o es K ahead.End = bounded_concluded o es K
+  bounded_listed o es K ahead.Nothing = bounded_finished (suc (length K)) o es
   bounded_listed o es K _ = tt
 
   bounded_unwrapped : (q : Place) (p : Part) (K : List Frame) (a : Ahead) → Bounded (suc (length K)) (unwrapped limit q p K a)
@@ -84,8 +93,16 @@ module _ (limit : ℕ) where
   bounded_tail q es p K (ahead.Close bracket.Square) = omega arith
   bounded_tail q es p K _ = tt
 
+  bounded_argued : (q : Place) (p : Part) (K : List Frame) (a : Ahead) → Bounded (suc (length K)) (argued limit q p K a)
+  bounded_argued q p K ahead.Of = omega arith
+  bounded_argued q p K _ = tt
+
+  bounded_pattern : (q : Place) (e : Part) (g : Group) (p : Part) (K : List Frame) (a : Ahead) → Bounded (suc (length K)) (pattern_read limit q e g p K a)
+  bounded_pattern q e g p K ahead.Arrow = omega arith
+  bounded_pattern q e g p K _ = tt
+
   bounded_whole : (n : ℕ) (p : Part) (a : Ahead) → Bounded n (whole limit p a)
-  bounded_whole n p ahead.End = tt
+  bounded_whole n p ahead.Nothing = tt
   bounded_whole n p _ = tt
 
   bounded_close : (p : Part) (K : List Frame) (a : Ahead) → Bounded (length K) (close limit p K a)
@@ -95,6 +112,8 @@ module _ (limit : ℕ) where
   bounded_close p (AfterMatch l ∷ K) a = omega arith
   bounded_close p (InList o es ∷ K) a = bounded_listed o (put_in es p) K a
   bounded_close p (InTail q es ∷ K) a = bounded_tail q es p K a
+  bounded_close p (InCase q ∷ K) a = bounded_argued q p K a
+  bounded_close p (InPattern q e g ∷ K) a = bounded_pattern q e g p K a
 
   bounded_opened : (p : Part) (K : List Frame) → Bounded (length K) (opened limit p K)
   bounded_opened p [] = omega arith
@@ -103,6 +122,8 @@ module _ (limit : ℕ) where
   bounded_opened p (AfterMatch l ∷ K) = omega arith
   bounded_opened p (InList o es ∷ K) = omega arith
   bounded_opened p (InTail q es ∷ K) = omega arith
+  bounded_opened p (InCase q ∷ K) = omega arith
+  bounded_opened p (InPattern q e g ∷ K) = omega arith
 
   bounded_pushed : (F : Frame) (K : List Frame) → Bounded (length K) (pushed limit F K)
   bounded_pushed F [] = omega arith
@@ -111,6 +132,8 @@ module _ (limit : ℕ) where
   bounded_pushed F (AfterMatch l ∷ K) = omega arith
   bounded_pushed F (InList o es ∷ K) = omega arith
   bounded_pushed F (InTail q es ∷ K) = omega arith
+  bounded_pushed F (InCase q ∷ K) = omega arith
+  bounded_pushed F (InPattern q e g ∷ K) = omega arith
 
   bounded_go_on : (p : Part) (k : ℕ) (K : List Frame) (a : Ahead) → Bounded (length K) (go_on limit p k K a)
   bounded_go_on p k K (ahead.Open bracket.Round) = either (length K) (nat_le max_level k) (opened limit p K) (Over Refused) (bounded_opened p K) tt
@@ -131,6 +154,7 @@ module _ (limit : ℕ) where
   bounded_begin K (ahead.Open bracket.Square) p = omega arith
   bounded_begin K (ahead.Open bracket.Curly) p = omega arith
   bounded_begin K (ahead.Close b) p = bounded_empty b K
+  bounded_begin K ahead.Case p = omega arith
   bounded_begin K _ p = tt
 
   bounded_named : (n : Name) (g : Group) (K : List Frame) (a : Ahead) (p : Place) → Bounded (length K) (named limit n g K a p)

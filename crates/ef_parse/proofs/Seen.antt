@@ -9,11 +9,13 @@ use Rattle.ef_token.specs.declared.token.TokenKind.{TokenKind}
 use Rattle.ef_token.specs.declared.token.TokenKind.TheVariants as kind
 use Rattle.ef_token.specs.declared.word.Sym.{Sym}
 use Rattle.ef_token.specs.declared.word.Sym.TheVariants as sy
+use Rattle.ef_token.specs.declared.word.Word.{Word}
+use Rattle.ef_token.specs.declared.word.Word.TheVariants as word
 use Rattle.ef_parse.specs.declared.ahead.Ahead.{Ahead}
 use Rattle.ef_parse.specs.declared.ahead.Ahead.TheVariants as ahead
 use Rattle.ef_parse.specs.declared.ahead.Bracket.{Bracket}
 use Rattle.ef_parse.specs.declared.ahead.Bracket.TheVariants as bracket
-use Rattle.ef_parse.specs.Machine.{look, seen, seen_symbol, seen_variable}
+use Rattle.ef_parse.specs.Machine.{look, seen, seen_symbol, seen_variable, seen_word}
 
 -- ---- brackets
 
@@ -48,7 +50,7 @@ module _ (all : Texts) where
   -- ---- what the seen token is
 
   abbrev pub IsKind : TokenKind → Ahead → Type 0
-  IsKind k ahead.End = ⊥
+  IsKind k ahead.Nothing = ⊥
   IsKind k (ahead.Atom n) = k ≡ kind.Atom n
   IsKind k (ahead.Var n) = (k ≡ kind.Var n) × (text all n ≢ codes "_")
   IsKind k ahead.Any = (n : Name) × (k ≡ kind.Var n) × (text all n ≡ codes "_")
@@ -61,6 +63,9 @@ module _ (all : Texts) where
   IsKind k ahead.Colon = k ≡ kind.Sym sy.Colon
   IsKind k ahead.Match = k ≡ kind.Sym sy.Match
   IsKind k ahead.Arrow = k ≡ kind.Sym sy.Arrow
+  IsKind k ahead.Case = k ≡ kind.Word word.Case
+  IsKind k ahead.Of = k ≡ kind.Word word.Of
+  IsKind k ahead.End = k ≡ kind.Word word.End
   IsKind k ahead.Other = Unit {0}
 
   is_symbol : (s : Sym) → IsKind (kind.Sym s) (seen_symbol s)
@@ -78,6 +83,12 @@ module _ (all : Texts) where
   is_symbol sy.Arrow = refl
   is_symbol _ = tt
 
+  is_word : (w : Word) → IsKind (kind.Word w) (seen_word w)
+  is_word word.Case = refl
+  is_word word.Of = refl
+  is_word word.End = refl
+  is_word _ = tt
+
   is_variable : (n : Name) → IsKind (kind.Var n) (seen_variable all n)
   is_variable n = go (bytes_eq (text all n) (codes "_")) refl
     where
@@ -92,12 +103,13 @@ module _ (all : Texts) where
   is_kind (kind.Atom n) = refl
   is_kind (kind.Var n) = is_variable n
   is_kind (kind.Int i) = refl
+  is_kind (kind.Word w) = is_word w
   is_kind (kind.Sym s) = is_symbol s
   is_kind _ = tt
 
   -- the tokens begin with what is seen
   abbrev pub Begins : List Token → Ahead → Type 0
-  Begins [] a = a ≡ ahead.End
+  Begins [] a = a ≡ ahead.Nothing
   Begins (t ∷ ts) a = IsKind t.kind a
 
   pub begins : (ts : List Token) → Begins ts (look all ts)

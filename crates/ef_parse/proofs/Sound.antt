@@ -9,17 +9,18 @@ use Rattle.ef_token.specs.declared.token.Token.{Token}
 use Rattle.ef_token.specs.declared.token.TokenKind.{TokenKind}
 use Rattle.ef_token.specs.declared.token.TokenKind.TheVariants as kind
 use Rattle.ef_token.specs.declared.word.Sym.TheVariants as sy
-use Rattle.ef_forms.specs.Tree.{Tree, Trees, tree, int, atom, var, any, list, list_to, tuple, matching, call, remote, end, no_clauses}
+use Rattle.ef_token.specs.declared.word.Word.TheVariants as word
+use Rattle.ef_forms.specs.Tree.{Tree, Trees, tree, int, atom, var, any, list, list_to, tuple, matching, call, remote, case_of, end, more, no_clauses}
 use Rattle.ef_parse.specs.declared.ahead.Ahead.{Ahead}
 use Rattle.ef_parse.specs.declared.ahead.Ahead.TheVariants as ahead
 use Rattle.ef_parse.specs.declared.ahead.Bracket.{Bracket}
 use Rattle.ef_parse.specs.declared.ahead.Bracket.TheVariants as bracket
-use Rattle.ef_parse.specs.Grammar.{token, symbol, start_of, match_level, call_level, max_level, Spells, SpellsAll, SpellsSome, SpellsClauses, a_variable, an_underscore, an_atom, an_integer, parentheses, a_list, a_list_to, a_tuple, a_match, a_call, a_remote, some, a_clause}
-use Rattle.ef_parse.specs.Machine.{parenthesised, tailed, matched, Part, Group, Opener, call_of, list_at, tuple_at, head_of, Frame, InParens, AfterColon, AfterMatch, InList, InTail, Mode, Need, Have, NeedName, NeedHead, NeedArrow, Outcome, Expression, Function, Refused, Move, Keep, Take, Over, State, Go, Done, st, apply, look, add, add_clause, is_none, part_of, items_of, group_of, none, no_group, ended, ended_empty, barred, followed, finished, begin, listed, unwrapped, tail_read, whole, close, opened, pushed, go_on, named, headed, pointed, move, Steps, here, then_on, Ends}
-use Rattle.ef_parse.proofs.Parts.{parens_is, enclosed_is, tailed_is, matched_is, called_is, called_in_is, put_in_is, put_clause_is}
+use Rattle.ef_parse.specs.Grammar.{token, symbol, keyword, start_of, match_level, call_level, max_level, Spells, SpellsAll, SpellsSome, SpellsClauses, a_variable, an_underscore, an_atom, an_integer, parentheses, a_list, a_list_to, a_tuple, a_match, a_call, a_remote, a_case, some, a_branch, a_clause}
+use Rattle.ef_parse.specs.Machine.{parenthesised, tailed, matched, chosen, put_branch, Part, Group, Opener, call_of, list_at, tuple_at, head_of, branch_of, Frame, InParens, AfterColon, AfterMatch, InList, InTail, InCase, InPattern, Mode, Need, Have, NeedName, NeedHead, NeedArrow, Outcome, Expression, Function, Refused, Move, Keep, Take, Over, State, Go, Done, st, apply, look, add, add_clause, is_none, part_of, items_of, group_of, none, no_group, ended, ended_empty, barred, followed, concluded, finished, begin, listed, unwrapped, tail_read, argued, pattern_read, whole, close, opened, pushed, go_on, named, headed, pointed, move, Steps, here, then_on, Ends}
+use Rattle.ef_parse.proofs.Parts.{parens_is, enclosed_is, tailed_is, matched_is, called_is, called_in_is, chosen_is, put_in_is, put_clause_is, put_branch_is}
 use Rattle.ef_parse.proofs.Seen.{closing, Begins, begins}
 use Rattle.ef_parse.proofs.Complete.{begun, start_is}
-use Rattle.ef_parse.proofs.Open.{no_front, comma_after, Before, none_before, semicolon_after, finish, empty_front, finish_clauses, full, Open, bottom, in_parens, after_colon, after_match, in_list, in_tail, Opened, for_call, for_remote, for_list, for_tuple, for_head, for_body, HeldClauses, HeldHead, HeldPatterns, Held, Keeps, Says, Grows, refused}
+use Rattle.ef_parse.proofs.Open.{no_front, comma_after, Before, none_before, semicolon_after, finish, empty_front, finish_clauses, no_branches, branches_before, finish_branches, full, Open, bottom, in_parens, after_colon, after_match, in_list, in_tail, in_case, in_pattern, Opened, for_call, for_remote, for_list, for_tuple, for_head, for_body, for_branch, HeldClauses, HeldHead, HeldPatterns, Held, Keeps, Says, Grows, refused}
 
 module _ (all : Texts) (limit : ℕ) where
   -- an expression that stands behind the front
@@ -74,6 +75,7 @@ module _ (all : Texts) (limit : ℕ) where
   ends bracket.Round o K ts us es d q rest read w (for_list K' ts' p h) hs = tt
   ends bracket.Round o K ts us es d q rest read w (for_tuple K' ts' p h) hs = tt
   ends bracket.Round o K ts us es d q rest read w (for_body n cs c bs p q' r s xs ps c' before hp) hs = tt
+  ends bracket.Round o K ts us es d q rest read w (for_branch p a g K' ts' ls l j f r h s) hs = tt
   ends bracket.Square o K ts us es d q rest read w (for_list K' ts' p h) hs =
       have _ ts' (symbol sy.LeftBracket p ∷ (us ++ symbol sy.RightBracket q ∷ [])) K' (tree p (list es)) max_level (suc d) _
       (ap (λ z. z ++ symbol sy.RightBracket q ∷ []) w ∙ regroup) (enclosed_is limit list p es d) h (a_list es d p q us hs)
@@ -85,6 +87,7 @@ module _ (all : Texts) (limit : ℕ) where
   ends bracket.Square o K ts us es d q rest read w (for_tuple K' ts' p h) hs = tt
   ends bracket.Square o K ts us es d q rest read w (for_head n cs c bs p r before) hs = tt
   ends bracket.Square o K ts us es d q rest read w (for_body n cs c bs p q' r s xs ps c' before hp) hs = tt
+  ends bracket.Square o K ts us es d q rest read w (for_branch p a g K' ts' ls l j f r h s) hs = tt
   ends bracket.Curly o K ts us es d q rest read w (for_tuple K' ts' p h) hs =
       have _ ts' (symbol sy.LeftBrace p ∷ (us ++ symbol sy.RightBrace q ∷ [])) K' (tree p (tuple es)) max_level (suc d) _
       (ap (λ z. z ++ symbol sy.RightBrace q ∷ []) w ∙ regroup) (enclosed_is limit tuple p es d) h (a_tuple es d p q us hs)
@@ -96,6 +99,7 @@ module _ (all : Texts) (limit : ℕ) where
   ends bracket.Curly o K ts us es d q rest read w (for_list K' ts' p h) hs = tt
   ends bracket.Curly o K ts us es d q rest read w (for_head n cs c bs p r before) hs = tt
   ends bracket.Curly o K ts us es d q rest read w (for_body n cs c bs p q' r s xs ps c' before hp) hs = tt
+  ends bracket.Curly o K ts us es d q rest read w (for_branch p a g K' ts' ls l j f r h s) hs = tt
 
   -- the tail of a list follows
   bars : (o : Opener) (K : List Frame) (ts us : List Token) (es : Trees) (d : ℕ) (q : Place) (rest read : List Token) → read ≡ ts ++ us → Opened all limit o K ts → SpellsSome all es d us
@@ -110,11 +114,63 @@ module _ (all : Texts) (limit : ℕ) where
   bars o K ts us es d q rest read w (for_tuple K' ts' p h) hs = tt
   bars o K ts us es d q rest read w (for_head n cs c bs p r before) hs = tt
   bars o K ts us es d q rest read w (for_body n cs c bs p q' r s xs ps c' before hp) hs = tt
+  bars o K ts us es d q rest read w (for_branch p a g K' ts' ls l j f r h s) hs = tt
 
   body_tokens : (n : Name) (bs xs us : List Token) (p q r s : Place)
       → (bs ++ (token (kind.Atom n) p ∷ symbol sy.LeftParen q ∷ (xs ++ symbol sy.RightParen r ∷ symbol sy.Arrow s ∷ []))) ++ us
       ≡ bs ++ (token (kind.Atom n) p ∷ symbol sy.LeftParen q ∷ (xs ++ symbol sy.RightParen r ∷ symbol sy.Arrow s ∷ us))
   body_tokens n bs xs us p q r s = simp append_assoc refl
+
+  -- ---- the clauses of a `case`
+
+  case_front : (ts xs bs ls us : List Token) (p q r : Place)
+      → ((ts ++ (keyword word.Case p ∷ (xs ++ keyword word.Of q ∷ bs))) ++ (ls ++ symbol sy.Arrow r ∷ [])) ++ us
+      ≡ ts ++ (keyword word.Case p ∷ (xs ++ keyword word.Of q ∷ (bs ++ (ls ++ symbol sy.Arrow r ∷ us))))
+  case_front ts xs bs ls us p q r = simp append_assoc refl
+
+  case_behind : (ts xs bs : List Token) (p q : Place) (t : Token)
+      → (ts ++ (keyword word.Case p ∷ (xs ++ keyword word.Of q ∷ bs))) ++ t ∷ [] ≡ ts ++ (keyword word.Case p ∷ (xs ++ keyword word.Of q ∷ (bs ++ t ∷ [])))
+  case_behind ts xs bs p q t = simp append_assoc refl
+
+  case_tokens : (ts xs bs ls us : List Token) (p q r : Place) (t : Token)
+      → (((ts ++ (keyword word.Case p ∷ (xs ++ keyword word.Of q ∷ bs))) ++ (ls ++ symbol sy.Arrow r ∷ [])) ++ us) ++ t ∷ []
+      ≡ ts ++ (keyword word.Case p ∷ (xs ++ keyword word.Of q ∷ ((bs ++ (ls ++ symbol sy.Arrow r ∷ us)) ++ t ∷ [])))
+  case_tokens ts xs bs ls us p q r t =
+      ap (λ z. z ++ t ∷ []) (case_front ts xs bs ls us p q r) ∙ case_behind ts xs (bs ++ (ls ++ symbol sy.Arrow r ∷ us)) p q t
+
+  -- a semicolon behind one more clause
+  branches : (p : Place) (a : Part) (g : Group) (K : List Frame) (ts : List Token) → Open all limit (InPattern p a g ∷ K) ts → (l : Tree) (j f : ℕ) (ls : List Token) (r : Place) → Spells all l j f ls
+      → (es : Trees) (d : ℕ) (us : List Token) → SpellsSome all es d us → (t : Place)
+      → Open all limit (InPattern p a (put_branch g (part_of limit (start_of ls) l f) (items_of limit es d)) ∷ K) (((ts ++ (ls ++ symbol sy.Arrow r ∷ [])) ++ us) ++ symbol sy.Semicolon t ∷ [])
+  branches p a g K ts (in_pattern K' ts' xs bs e k c cs b p' q h s before) l j f ls r s' es d us hs t =
+      subst (λ z. Open all limit (InPattern p' (part_of limit (start_of xs) e c) z ∷ K') ((((ts' ++ (keyword word.Case p' ∷ (xs ++ keyword word.Of q ∷ bs))) ++ (ls ++ symbol sy.Arrow r ∷ [])) ++ us) ++ symbol sy.Semicolon t ∷ []))
+      (sym (put_branch_is limit (start_of ls) cs l es b f d))
+      (subst (Open all limit (InPattern p' (part_of limit (start_of xs) e c) (group_of limit (add_clause cs (start_of ls) (more l end) es) (max b (max f d))) ∷ K')) (sym (case_tokens ts' xs bs ls us p' q r (symbol sy.Semicolon t)))
+      (in_pattern K' ts' xs _ e k c _ _ p' q h s
+      (branches_before _ _ _ t (finish_branches all cs b bs before (start_of ls) (more l end) es (max f d) _ (a_branch l es j f d r ls us s' hs)))))
+
+  -- the word `end` behind one more clause
+  chooses : (p : Place) (a : Part) (g : Group) (K : List Frame) (ts : List Token) → Open all limit (InPattern p a g ∷ K) ts → (l : Tree) (j f : ℕ) (ls : List Token) (r : Place) → Spells all l j f ls
+      → (es : Trees) (d : ℕ) (us : List Token) → SpellsSome all es d us → (t : Place)
+      → Held all limit (Have (chosen limit p a (put_branch g (part_of limit (start_of ls) l f) (items_of limit es d))) max_level) K (((ts ++ (ls ++ symbol sy.Arrow r ∷ [])) ++ us) ++ keyword word.End t ∷ [])
+  chooses p a g K ts (in_pattern K' ts' xs bs e k c cs b p' q h s before) l j f ls r s' es d us hs t =
+      have _ ts' (keyword word.Case p' ∷ (xs ++ keyword word.Of q ∷ ((bs ++ (ls ++ symbol sy.Arrow r ∷ us)) ++ keyword word.End t ∷ []))) K'
+      (tree p' (case_of e (add_clause cs (start_of ls) (more l end) es))) max_level (suc (max c (max b (max f d)))) _
+      (case_tokens ts' xs bs ls us p' q r (keyword word.End t))
+      (ap (chosen limit p' (part_of limit (start_of xs) e c)) (put_branch_is limit (start_of ls) cs l es b f d) ∙ chosen_is limit p' (start_of xs) e _ c (max b (max f d)))
+      h (a_case e _ k c _ p' q t xs _ s (finish_branches all cs b bs before (start_of ls) (more l end) es (max f d) _ (a_branch l es j f d r ls us s' hs)))
+
+  -- the `case` ends
+  concludes : (o : Opener) (K : List Frame) (ts us : List Token) (es : Trees) (d : ℕ) (t : Place) (rest read : List Token) → read ≡ ts ++ us → Opened all limit o K ts → SpellsSome all es d us
+      → Grows all limit read (keyword word.End t ∷ rest) (concluded limit o (items_of limit es d) K)
+  concludes o K ts us es d t rest read w (for_branch p a g K' ts' ls l j f r h s) hs =
+      subst (Held all limit (Have (chosen limit p a (put_branch g (part_of limit (start_of ls) l f) (items_of limit es d))) max_level) K') (sym (ap (λ z. z ++ keyword word.End t ∷ []) w)) (chooses p a g K' ts' h l j f ls r s es d us hs t)
+  concludes o K ts us es d t rest read w (for_call K' ts' fs f c p h s) hs = tt
+  concludes o K ts us es d t rest read w (for_remote K' ts' ms fs m f b c p r h s s') hs = tt
+  concludes o K ts us es d t rest read w (for_list K' ts' p h) hs = tt
+  concludes o K ts us es d t rest read w (for_tuple K' ts' p h) hs = tt
+  concludes o K ts us es d t rest read w (for_head n cs c bs p r before) hs = tt
+  concludes o K ts us es d t rest read w (for_body n cs c bs p q r s xs ps c' before hp) hs = tt
 
   -- another clause follows
   follows : (o : Opener) (K : List Frame) (ts us : List Token) (es : Trees) (d : ℕ) (t : Place) (rest read : List Token) → read ≡ ts ++ us → Opened all limit o K ts → SpellsSome all es d us
@@ -129,6 +185,8 @@ module _ (all : Texts) (limit : ℕ) where
             subst (λ z. Before all n (add_clause cs p ps es) (max c (max c' d)) (z ++ symbol sy.Semicolon t ∷ [])) (sym (w ∙ body_tokens n bs xs us p q r s))
             (semicolon_after n _ _ _ t (finish_clauses all n cs c bs before p ps es (max c' d) _ (a_clause n ps es c' d p q r s xs us hp hs)));
       }
+  follows o K ts us es d t rest read w (for_branch p a g K' ts' ls l j f r h s) hs =
+      subst (Open all limit (InPattern p a (put_branch g (part_of limit (start_of ls) l f) (items_of limit es d)) ∷ K')) (sym (ap (λ z. z ++ symbol sy.Semicolon t ∷ []) w)) (branches p a g K' ts' h l j f ls r s es d us hs t)
   follows o K ts us es d t rest read w (for_call K' ts' fs f c p h s) hs = tt
   follows o K ts us es d t rest read w (for_remote K' ts' ms fs m f b c p r h s s') hs = tt
   follows o K ts us es d t rest read w (for_list K' ts' p h) hs = tt
@@ -151,6 +209,7 @@ module _ (all : Texts) (limit : ℕ) where
   finishes o K ts us es d read w (for_list K' ts' p h) hs = tt
   finishes o K ts us es d read w (for_tuple K' ts' p h) hs = tt
   finishes o K ts us es d read w (for_head n cs c bs p r before) hs = tt
+  finishes o K ts us es d read w (for_branch p a g K' ts' ls l j f r h s) hs = tt
 
   -- ---- at the token that is seen
 
@@ -173,8 +232,11 @@ module _ (all : Texts) (limit : ℕ) where
   lists o K ts us es d read [] ahead.Semicolon b w h s = absurd (cc)
   lists o K ts us es d read (t ∷ rest) ahead.Semicolon b w h s =
       at_kind t _ read rest (followed limit o (items_of limit es d) K) b (follows o K ts us es d t.place rest read w h s)
-  lists o K ts us es d read [] ahead.End b w h s = finishes o K ts us es d read w h s
-  lists o K ts us es d read (t ∷ rest) ahead.End b w h s = absurd b
+  lists o K ts us es d read [] ahead.End b w h s = absurd (cc)
+  lists o K ts us es d read (t ∷ rest) ahead.End b w h s =
+      at_kind t _ read rest (concluded limit o (items_of limit es d) K) b (concludes o K ts us es d t.place rest read w h s)
+  lists o K ts us es d read [] ahead.Nothing b w h s = finishes o K ts us es d read w h s
+  lists o K ts us es d read (t ∷ rest) ahead.Nothing b w h s = absurd b
   lists o K ts us es d read rest _ b w h s = refused all limit read rest
 
   unwraps : (p : Place) (K : List Frame) (ts back : List Token) (e : Tree) (k d : ℕ) (read rest : List Token) (a : Ahead) → Begins all rest a
@@ -206,10 +268,36 @@ module _ (all : Texts) (limit : ℕ) where
       regroup r = simp append_assoc refl
   tails p q K ts us back es g e k d read rest _ b w h hs s = refused all limit read rest
 
+  -- a list is begun
+  begun_list : (o : Opener) (K : List Frame) (ts read : List Token) → read ≡ ts → Opened all limit o K ts → Open all limit (InList o (none limit) ∷ K) read
+  begun_list o K ts read w h = subst (Open all limit (InList o (none limit) ∷ K)) (append-nil ts ∙ sym w) (in_list o K ts [] end 0 h no_front)
+
+  -- the argument of a `case`
+  argues : (p : Place) (K : List Frame) (ts back : List Token) (e : Tree) (k d : ℕ) (read rest : List Token) (a : Ahead) → Begins all rest a
+      → read ≡ (ts ++ keyword word.Case p ∷ []) ++ back → Open all limit K ts → Spells all e k d back → Grows all limit read rest (argued limit p (part_of limit (start_of back) e d) K a)
+  argues p K ts back e k d read [] ahead.Of b w h s = absurd (cc)
+  argues p K ts back e k d read (t ∷ rest) ahead.Of b w h s =
+      at_kind t _ read rest (Take Need (InPattern p (part_of limit (start_of back) e d) (no_group limit) ∷ K)) b
+      (subst (Open all limit (InPattern p (part_of limit (start_of back) e d) (no_group limit) ∷ K)) (sym (ap (λ z. z ++ keyword word.Of t.place ∷ []) w ∙ regroup t.place))
+      (in_pattern K ts back [] e k d no_clauses 0 p t.place h s no_branches))
+    where
+      regroup : (q : Place) → ((ts ++ keyword word.Case p ∷ []) ++ back) ++ keyword word.Of q ∷ [] ≡ ts ++ (keyword word.Case p ∷ (back ++ keyword word.Of q ∷ []))
+      regroup q = simp append_assoc refl
+  argues p K ts back e k d read rest _ b w h s = refused all limit read rest
+
+  -- the pattern of a clause of a `case`
+  patterns : (p : Place) (a : Part) (g : Group) (K : List Frame) (front back : List Token) (l : Tree) (k d : ℕ) (read rest : List Token) (x : Ahead) → Begins all rest x
+      → read ≡ front ++ back → Open all limit (InPattern p a g ∷ K) front → Spells all l k d back → Grows all limit read rest (pattern_read limit p a g (part_of limit (start_of back) l d) K x)
+  patterns p a g K front back l k d read [] ahead.Arrow b w h s = absurd (cc)
+  patterns p a g K front back l k d read (t ∷ rest) ahead.Arrow b w h s =
+      at_kind t _ read rest (Take Need (InList (branch_of p a g (part_of limit (start_of back) l d)) (none limit) ∷ K)) b
+      (begun_list _ K (front ++ (back ++ symbol sy.Arrow t.place ∷ [])) _ (ap (λ z. z ++ symbol sy.Arrow t.place ∷ []) w ∙ append_assoc front back _) (for_branch p a g K front back l k d t.place h s))
+  patterns p a g K front back l k d read rest _ b w h s = refused all limit read rest
+
   wholes : (back : List Token) (e : Tree) (k d : ℕ) (read rest : List Token) (a : Ahead) → Begins all rest a
       → read ≡ back → Spells all e k d back → Grows all limit read rest (whole limit (part_of limit (start_of back) e d) a)
-  wholes back e k d read [] ahead.End b w s = (e, k, d, ap (λ z. part_of limit (start_of z) e d) (sym w), subst (Spells all e k d) (sym w) s)
-  wholes back e k d read (t ∷ rest) ahead.End b w s = absurd b
+  wholes back e k d read [] ahead.Nothing b w s = (e, k, d, ap (λ z. part_of limit (start_of z) e d) (sym w), subst (Spells all e k d) (sym w) s)
+  wholes back e k d read (t ∷ rest) ahead.Nothing b w s = absurd b
   wholes back e k d read rest _ b w s = refused all limit read rest
 
   -- the right side of a match
@@ -234,12 +322,11 @@ module _ (all : Texts) (limit : ℕ) where
       subst (λ z. Grows all limit read rest (listed limit o z K' a)) (sym (put_in_is limit (start_of back) es e c d))
       (lists o K' ts (us ++ back) (add es e) (max c d) read rest a b (w ∙ append_assoc ts us back) h (finish all es c us f e k d back s))
   closes K front back e k d read rest a b w (in_tail K' ts us es c p q h hs) s = tails p q K' ts us back es c e k d read rest a b w h hs s
+  closes K front back e k d read rest a b w (in_case K' ts p h) s = argues p K' ts back e k d read rest a b w h s
+  closes K front back e k d read rest a b w (in_pattern K' ts xs bs e' k' d' cs c p q h s' before) s =
+      patterns p (part_of limit (start_of xs) e' d') (group_of limit cs c) K' _ back e k d read rest a b w (in_pattern K' ts xs bs e' k' d' cs c p q h s' before) s
 
   -- ---- what is opened
-
-  -- a list is begun
-  begun_list : (o : Opener) (K : List Frame) (ts read : List Token) → read ≡ ts → Opened all limit o K ts → Open all limit (InList o (none limit) ∷ K) read
-  begun_list o K ts read w h = subst (Open all limit (InList o (none limit) ∷ K)) (append-nil ts ∙ sym w) (in_list o K ts [] end 0 h no_front)
 
   -- the target of a call
   calls : (K : List Frame) (front back : List Token) (e : Tree) (d : ℕ) (p : Place) (read : List Token)
@@ -259,6 +346,8 @@ module _ (all : Texts) (limit : ℕ) where
   opens K front back e d p read rest w (after_match K' ts ls l j c q h low g) s = calls _ front back e d p read w (after_match K' ts ls l j c q h low g) s
   opens K front back e d p read rest w (in_list o K' ts us es c h f) s = calls _ front back e d p read w (in_list o K' ts us es c h f) s
   opens K front back e d p read rest w (in_tail K' ts us es c q r h hs) s = calls _ front back e d p read w (in_tail K' ts us es c q r h hs) s
+  opens K front back e d p read rest w (in_case K' ts q h) s = calls _ front back e d p read w (in_case K' ts q h) s
+  opens K front back e d p read rest w (in_pattern K' ts xs bs e' k' d' cs c q r h s' before) s = calls _ front back e d p read w (in_pattern K' ts xs bs e' k' d' cs c q r h s' before) s
 
   -- the stack with the frame of a colon or an equals sign
   pushes : (F : Frame) (K : List Frame) (front read : List Token) (t : Token) (rest : List Token) → Open all limit K front → Open all limit (F ∷ K) (read ++ t ∷ [])
@@ -269,6 +358,8 @@ module _ (all : Texts) (limit : ℕ) where
   pushes F K front read t rest (after_match K' ts ls l j c q h low g) o = o
   pushes F K front read t rest (in_list o' K' ts us es c h f) o = o
   pushes F K front read t rest (in_tail K' ts us es c q r h hs) o = o
+  pushes F K front read t rest (in_case K' ts q h) o = o
+  pushes F K front read t rest (in_pattern K' ts xs bs e' k' d' cs c q r h s' before) o = o
 
   -- an expression stands before a colon
   qualifies : (K : List Frame) (front back : List Token) (e : Tree) (d : ℕ) (p : Place) (read rest : List Token)
@@ -322,6 +413,8 @@ module _ (all : Texts) (limit : ℕ) where
       go true q = ends c o K' ts us es d p rest read refl h (empty_front all limit es d us f q)
       go false q = tt
   empties c K read rest p (in_tail K' ts us es b q r h hs) = tt
+  empties c K read rest p (in_case K' ts q h) = tt
+  empties c K read rest p (in_pattern K' ts xs bs e' k' d' cs c' q r h s' before) = tt
 
   single : (K : List Frame) (read rest : List Token) (k : TokenKind) (p : Place) (e : Tree) → Open all limit K read → Spells all e max_level 1 (token k p ∷ [])
       → Grows all limit read (token k p ∷ rest) (Take (Have (part_of limit p e 1) max_level) K)
@@ -342,6 +435,8 @@ module _ (all : Texts) (limit : ℕ) where
   starts K read (t ∷ rest) (ahead.Open bracket.Curly) b h = at_kind t _ read rest (Take Need (InList (tuple_at t.place) (none limit) ∷ K)) b (begun_list _ K _ _ refl (for_tuple K read t.place h))
   starts K read [] (ahead.Close c) b h = absurd (cc)
   starts K read (t ∷ rest) (ahead.Close c) b h = at_kind t _ read rest (ended_empty limit c K) b (empties c K read rest t.place h)
+  starts K read [] ahead.Case b h = absurd (cc)
+  starts K read (t ∷ rest) ahead.Case b h = at_kind t _ read rest (Take Need (InCase t.place ∷ K)) b (in_case K read t.place h)
   starts K read rest _ b h = refused all limit read rest
 
   -- ---- the beginning of a clause

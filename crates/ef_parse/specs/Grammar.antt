@@ -11,13 +11,18 @@ use Rattle.ef_token.specs.declared.token.TokenKind.TheVariants as kind
 use Rattle.ef_token.specs.declared.token.Token.{Token}
 use Rattle.ef_token.specs.declared.word.Sym.{Sym}
 use Rattle.ef_token.specs.declared.word.Sym.TheVariants as sym
-use Rattle.ef_forms.specs.Tree.{Tree, Trees, Clauses, tree, int, atom, var, any, list, list_to, tuple, matching, call, remote, end, more, no_guard, no_clauses, clause}
+use Rattle.ef_token.specs.declared.word.Word.{Word}
+use Rattle.ef_token.specs.declared.word.Word.TheVariants as word
+use Rattle.ef_forms.specs.Tree.{Tree, Trees, Clauses, tree, int, atom, var, any, list, list_to, tuple, matching, call, remote, case_of, end, more, no_guard, no_clauses, clause}
 
 abbrev pub token : TokenKind → Place → Token
 token k p = record { kind = k; place = p }
 
 abbrev pub symbol : Sym → Place → Token
 symbol s p = token (kind.Sym s) p
+
+abbrev pub keyword : Word → Place → Token
+keyword w p = token (kind.Word w) p
 
 -- where the first token stands
 abbrev pub start_of : List Token → Place
@@ -60,6 +65,9 @@ module _ (all : Texts) where
           → Spells m max_level c ms → Spells f max_level d fs → SpellsAll args g xs
           → Spells (tree (start_of ms) (remote m f args)) call_level (suc (max c (max d g)))
           (ms ++ symbol sym.Colon p ∷ (fs ++ symbol sym.LeftParen q ∷ (xs ++ symbol sym.RightParen r ∷ [])))
+      a_case : (e : Tree) (cs : Clauses) (k d g : ℕ) (p q r : Place) (ts bs : List Token) → Spells e k d ts → SpellsBranches cs g bs
+          → Spells (tree p (case_of e cs)) max_level (suc (max d g))
+          (keyword word.Case p ∷ (ts ++ keyword word.Of q ∷ (bs ++ keyword word.End r ∷ [])))
 
     -- none or more, with commas between
     pub data SpellsAll : Trees → ℕ → List Token → Type 0 where
@@ -71,6 +79,20 @@ module _ (all : Texts) where
       one : (e : Tree) (k d : ℕ) (ts : List Token) → Spells e k d ts → SpellsSome (more e end) d ts
       and_more : (e : Tree) (es : Trees) (k d g : ℕ) (p : Place) (ts us : List Token) → Spells e k d ts → SpellsSome es g us
           → SpellsSome (more e es) (max d g) (ts ++ symbol sym.Comma p ∷ us)
+
+    -- a clause of a `case`, with its pattern and its body, at the first token of the pattern: as far as it is built, one
+    -- without a guard
+    pub data SpellsBranch : Place → Trees → Trees → ℕ → List Token → Type 0 where
+      a_branch : (l : Tree) (es : Trees) (k d g : ℕ) (p : Place) (ls ys : List Token) → Spells l k d ls → SpellsSome es g ys
+          → SpellsBranch (start_of ls) (more l end) es (max d g) (ls ++ symbol sym.Arrow p ∷ ys)
+
+    -- one or more clauses of a `case`, with semicolons between
+    pub data SpellsBranches : Clauses → ℕ → List Token → Type 0 where
+      one_branch : (p : Place) (ps es : Trees) (d : ℕ) (ts : List Token) → SpellsBranch p ps es d ts
+          → SpellsBranches (clause p ps no_guard es no_clauses) d ts
+      and_branches : (p : Place) (ps es : Trees) (cs : Clauses) (d g : ℕ) (q : Place) (ts us : List Token)
+          → SpellsBranch p ps es d ts → SpellsBranches cs g us
+          → SpellsBranches (clause p ps no_guard es cs) (max d g) (ts ++ symbol sym.Semicolon q ∷ us)
 
   -- a clause of the function of this name, with its patterns and its body: as far as it is built, one without a guard
   pub data SpellsClause : Name → Place → Trees → Trees → ℕ → List Token → Type 0 where

@@ -10,7 +10,9 @@ use Rattle.ef_token.specs.declared.token.TokenKind.TheVariants as kind
 use Rattle.ef_token.specs.declared.token.Token.{Token}
 use Rattle.ef_token.specs.declared.word.Sym.{Sym}
 use Rattle.ef_token.specs.declared.word.Sym.TheVariants as sym
-use Rattle.ef_forms.specs.Tree.{Tree, Shape, Trees, Clauses, tree, int, atom, var, any, list, list_to, tuple, matching, call, remote, end, more, no_guard, no_clauses, clause}
+use Rattle.ef_token.specs.declared.word.Word.{Word}
+use Rattle.ef_token.specs.declared.word.Word.TheVariants as word
+use Rattle.ef_forms.specs.Tree.{Tree, Shape, Trees, Clauses, tree, int, atom, var, any, list, list_to, tuple, matching, call, remote, case_of, end, more, no_guard, no_clauses, clause}
 use Rattle.ef_parse.specs.declared.ahead.Ahead.{Ahead}
 use Rattle.ef_parse.specs.declared.ahead.Ahead.TheVariants as ahead
 use Rattle.ef_parse.specs.declared.ahead.Bracket.{Bracket}
@@ -34,6 +36,12 @@ seen_symbol sym.Match = ahead.Match
 seen_symbol sym.Arrow = ahead.Arrow
 seen_symbol _ = ahead.Other
 
+abbrev pub seen_word : Word → Ahead
+seen_word word.Case = ahead.Case
+seen_word word.Of = ahead.Of
+seen_word word.End = ahead.End
+seen_word _ = ahead.Other
+
 abbrev pub seen_variable : Texts → Name → Ahead
 seen_variable all n = if bytes_eq (text all n) (codes "_") then ahead.Any else ahead.Var n
 
@@ -41,11 +49,12 @@ abbrev pub seen : Texts → TokenKind → Ahead
 seen all (kind.Atom n) = ahead.Atom n
 seen all (kind.Var n) = seen_variable all n
 seen all (kind.Int i) = ahead.Int i
+seen all (kind.Word w) = seen_word w
 seen all (kind.Sym s) = seen_symbol s
 seen all _ = ahead.Other
 
 abbrev pub look : Texts → List Token → Ahead
-look all [] = ahead.End
+look all [] = ahead.Nothing
 look all (t ∷ ts) = seen all t.kind
 
 -- ---- what has been read
@@ -64,7 +73,8 @@ pub data Group : Type 0 where
   deep_clauses : Group
 
 -- What a list of items belongs to: the arguments of a call and of a remote call, a list and a tuple by their first
--- tokens, and the patterns and the body of a clause, with the name of its function, the clauses before and its place.
+-- tokens, the patterns and the body of a clause, with the name of its function, the clauses before and its place, and
+-- the body of a clause of a `case`, with the place and the argument of the `case`, the clauses before and the pattern.
 pub data Opener : Type 0 where
   call_of : Part → Opener
   remote_of : Part → Part → Opener
@@ -72,14 +82,18 @@ pub data Opener : Type 0 where
   tuple_at : Place → Opener
   head_of : Name → Group → Place → Opener
   body_of : Name → Group → Place → Parts → Opener
+  branch_of : Place → Part → Group → Part → Opener
 
--- what is open; a tail has the place and the items of its list
+-- What is open. A tail has the place and the items of its list, and the pattern of a clause of a `case` has the place and
+-- the argument of the `case` and the clauses before.
 pub data Frame : Type 0 where
   InParens : Place → Frame
   AfterColon : Part → Frame
   AfterMatch : Part → Frame
   InList : Opener → Parts → Frame
   InTail : Place → Parts → Frame
+  InCase : Place → Frame
+  InPattern : Place → Part → Group → Frame
 
 -- What comes next: an expression, what goes on with the one of a level that is read, and the name, the head and the
 -- arrow of a clause. The name is that of the function, whose clauses before are read.
@@ -144,6 +158,11 @@ abbrev pub put_clause : Group → Place → Parts → Parts → Group
 put_clause (built_clauses cs c) p (built_all ps d) (built_all es g) = built_clauses (add_clause cs p ps es) (max c (max d g))
 put_clause _ p _ _ = deep_clauses
 
+-- a clause of one pattern, which stands where the pattern begins
+abbrev pub put_branch : Group → Part → Parts → Group
+put_branch cs (built p l d) es = put_clause cs p (built_all (more l end) d) es
+put_branch cs deep es = deep_clauses
+
 module _ (limit : ℕ) where
   abbrev pub part_of : Place → Tree → ℕ → Part
   part_of p e d = if nat_le d limit then built p e d else deep
@@ -179,6 +198,11 @@ module _ (limit : ℕ) where
   called_in (built p m c) (built q f d) (built_all es g) = part_of p (tree p (remote m f es)) (suc (max c (max d g)))
   called_in _ _ _ = deep
 
+  -- the `case` of the argument and its clauses
+  abbrev pub chosen : Place → Part → Group → Part
+  chosen p (built q e d) (built_clauses cs g) = part_of p (tree p (case_of e cs)) (suc (max d g))
+  chosen p _ _ = deep
+
   abbrev pub none : Parts
   none = items_of end 0
 
@@ -209,7 +233,13 @@ module _ (limit : ℕ) where
   -- another clause follows
   abbrev pub followed : Opener → Parts → List Frame → Move
   followed (body_of n cs p ps) es K = Take (NeedName n (put_clause cs p ps es)) K
+  followed (branch_of p e cs l) es K = Take Need (InPattern p e (put_branch cs l es) ∷ K)
   followed _ es K = Over Refused
+
+  -- the `case` ends
+  abbrev pub concluded : Opener → Parts → List Frame → Move
+  concluded (branch_of p e cs l) es K = Take (Have (chosen p e (put_branch cs l es)) max_level) K
+  concluded _ es K = Over Refused
 
   -- no token is left behind the list
   abbrev pub finished : Opener → Parts → Move
@@ -225,6 +255,7 @@ module _ (limit : ℕ) where
   begin K (ahead.Open bracket.Square) p = Take Need (InList (list_at p) none ∷ K)
   begin K (ahead.Open bracket.Curly) p = Take Need (InList (tuple_at p) none ∷ K)
   begin K (ahead.Close b) p = ended_empty b K
+  begin K ahead.Case p = Take Need (InCase p ∷ K)
   begin K _ p = Over Refused
 
   -- an item of the list is read
@@ -233,7 +264,8 @@ module _ (limit : ℕ) where
   listed o es K (ahead.Close b) = ended b o es K
   listed o es K ahead.Bar = barred o es K
   listed o es K ahead.Semicolon = followed o es K
-  listed o es K ahead.End = finished o es
+  listed o es K ahead.End = concluded o es K
+  listed o es K ahead.Nothing = finished o es
   listed o es K _ = Over Refused
 
   abbrev pub unwrapped : Place → Part → List Frame → Ahead → Move
@@ -245,8 +277,18 @@ module _ (limit : ℕ) where
   tail_read q es p K (ahead.Close bracket.Square) = Take (Have (tailed q es p) max_level) K
   tail_read q es p K _ = Over Refused
 
+  -- the argument of a `case` is read
+  abbrev pub argued : Place → Part → List Frame → Ahead → Move
+  argued q p K ahead.Of = Take Need (InPattern q p no_group ∷ K)
+  argued q p K _ = Over Refused
+
+  -- the pattern of a clause of a `case` is read
+  abbrev pub pattern_read : Place → Part → Group → Part → List Frame → Ahead → Move
+  pattern_read q e cs p K ahead.Arrow = Take Need (InList (branch_of q e cs p) none ∷ K)
+  pattern_read q e cs p K _ = Over Refused
+
   abbrev pub whole : Part → Ahead → Move
-  whole p ahead.End = Over (Expression p)
+  whole p ahead.Nothing = Over (Expression p)
   whole p _ = Over Refused
 
   -- no token goes on with the expression, so the innermost frame takes it
@@ -257,6 +299,8 @@ module _ (limit : ℕ) where
   close p (AfterMatch l ∷ K) a = Keep (Have (matched l p) match_level) K
   close p (InList o es ∷ K) a = listed o (put_in es p) K a
   close p (InTail q es ∷ K) a = tail_read q es p K a
+  close p (InCase q ∷ K) a = argued q p K a
+  close p (InPattern q e cs ∷ K) a = pattern_read q e cs p K a
 
   -- a parenthesis behind an expression of the greatest level
   abbrev pub opened : Part → List Frame → Move

@@ -38,6 +38,7 @@ opener (opener_is.List p) = m.list_at p
 opener (opener_is.Tuple p) = m.tuple_at p
 opener (opener_is.Head n cs p) = m.head_of n (group cs) p
 opener (opener_is.Body n cs p ps) = m.body_of n (group cs) p (parts ps)
+opener (opener_is.Branch p e cs l) = m.branch_of p (part e) (group cs) (part l)
 
 abbrev pub frame : rf.Frame → m.Frame
 frame (frame_is.InParens p) = m.InParens p
@@ -45,6 +46,8 @@ frame (frame_is.AfterColon p) = m.AfterColon (part p)
 frame (frame_is.AfterMatch p) = m.AfterMatch (part p)
 frame (frame_is.InList o es) = m.InList (opener o) (parts es)
 frame (frame_is.InTail p es) = m.InTail p (parts es)
+frame (frame_is.InCase p) = m.InCase p
+frame (frame_is.InPattern p e cs) = m.InPattern p (part e) (group cs)
 
 -- the innermost frame first
 abbrev pub frames : List rf.Frame → List m.Frame

@@ -7,7 +7,7 @@ ghost use Rattle.ef_parse.specs.Machine as m;
 ghost use Rattle.ef_parse.specs.Reads.{first_name, name_of_kind};
 
 use ef_base::{Name, Names, Place};
-use ef_token::{Sym, Token, TokenKind};
+use ef_token::{Sym, Token, TokenKind, Word};
 
 /// `()`, `[]` and `{}`
 #[derive(Clone, Copy, Debug, PartialEq, Eq)]
@@ -17,10 +17,10 @@ pub enum Bracket {
     Curly,
 }
 
-/// A token as far as the grammar tells tokens apart: `Any` is `_`, and `End` that there is none.
+/// A token as far as the grammar tells tokens apart: `Any` is `_`, and `Nothing` that there is none.
 #[derive(Clone, Copy, Debug, PartialEq, Eq)]
 pub enum Ahead {
-    End,
+    Nothing,
     Atom(Name),
     Var(Name),
     Any,
@@ -33,6 +33,9 @@ pub enum Ahead {
     Colon,
     Match,
     Arrow,
+    Case,
+    Of,
+    End,
     Other,
 }
 
@@ -44,6 +47,7 @@ pub fn seen(names: &Names, kind: &TokenKind) -> Ahead
         TokenKind::Atom(name) => Ahead::Atom(*name),
         TokenKind::Var(name) => seen_variable(names, *name),
         TokenKind::Int(value) => Ahead::Int(*value),
+        TokenKind::Word(word) => seen_word(*word),
         TokenKind::Sym(symbol) => seen_symbol(*symbol),
         _ => Ahead::Other,
     }
@@ -57,6 +61,17 @@ fn seen_variable(names: &Names, name: Name) -> Ahead
         Ahead::Any
     } else {
         Ahead::Var(name)
+    }
+}
+
+fn seen_word(word: Word) -> Ahead
+    ensures { result ≡ m.seen_word word }
+{
+    match word {
+        Word::Case => Ahead::Case,
+        Word::Of => Ahead::Of,
+        Word::End => Ahead::End,
+        _ => Ahead::Other,
     }
 }
 
@@ -88,7 +103,7 @@ pub fn look(names: &Names, tokens: &[Token], at: usize) -> Ahead
 {
     match tokens.get(at) {
         Some(token) => seen(names, &token.kind),
-        None => Ahead::End,
+        None => Ahead::Nothing,
     }
 }
 

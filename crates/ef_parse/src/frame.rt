@@ -4,7 +4,8 @@ use crate::part::{Part, Parts};
 use ef_base::{Name, Place};
 
 /// What a list of items belongs to. Lists, tuples and clauses stand at their first tokens. `Head` and `Body` are the
-/// patterns and the body of a clause, with the name of its function and the clauses before.
+/// patterns and the body of a clause, with the name of its function and the clauses before; `Branch` is the body of a
+/// clause of a `case`, with the place and the argument of the `case`, the clauses before and the pattern.
 #[derive(Drop)]
 pub enum Opener {
     Call(Part),
@@ -13,6 +14,7 @@ pub enum Opener {
     Tuple(Place),
     Head(Name, Group, Place),
     Body(Name, Group, Place, Parts),
+    Branch(Place, Part, Group, Part),
 }
 
 #[derive(Drop)]
@@ -23,6 +25,10 @@ pub enum Frame {
     InList(Opener, Parts),
     /// The tail of a list, with the place and the items of the list.
     InTail(Place, Parts),
+    /// The argument of the `case` that stands there.
+    InCase(Place),
+    /// The pattern of a clause, with the place and the argument of its `case` and the clauses before.
+    InPattern(Place, Part, Group),
 }
 
 /// What comes next. `Have` has what is read and its level, `NeedName` the name of the function and its clauses before.

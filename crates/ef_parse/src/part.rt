@@ -30,7 +30,8 @@ pub enum Parts {
 /// The greatest nesting of what is built.
 pub const LIMIT: u8 = 128;
 
-fn part_of(start: Place, expr: Expr, nesting: u8) -> Part
+/// The expression as a part, if it is not nested too deep.
+pub fn part_of(start: Place, expr: Expr, nesting: u8) -> Part
     ensures { part result ≡ m.part_of 128 start (plain expr) nesting }
 {
     if nesting <= LIMIT {

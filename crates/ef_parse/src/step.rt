@@ -9,7 +9,7 @@ ghost use Rattle.ef_parse.specs.declared.ahead.Bracket.TheVariants as bracket_is
 
 use crate::ahead::{Ahead, Bracket};
 use crate::frame::{Advance, Frame, Mode, Opener, Outcome};
-use crate::group::{Group, put_clause};
+use crate::group::{Group, chosen, no_group, put_branch, put_clause};
 use crate::part::{
     Part, Parts, called, called_in, is_none, leaf, list, matched, no_parts, parenthesised, put_in,
     tailed, tuple,
@@ -48,7 +48,7 @@ fn parens_ended(
             stack.push(Frame::InList(body, no_parts(alloc)))?;
             Ok(Advance::Take(Mode::NeedArrow))
         }
-        _ => Ok(Advance::Done(Outcome::Refused)),
+        _other => Ok(Advance::Done(Outcome::Refused)),
     }
 }
 
@@ -58,7 +58,7 @@ fn list_ended(of: Opener, items: Parts) -> Advance
 {
     match of {
         Opener::List(start) => Advance::Take(Mode::Have(list(start, items), MAX_LEVEL)),
-        _ => Advance::Done(Outcome::Refused),
+        _other => Advance::Done(Outcome::Refused),
     }
 }
 
@@ -68,7 +68,7 @@ fn tuple_ended(of: Opener, items: Parts) -> Advance
 {
     match of {
         Opener::Tuple(start) => Advance::Take(Mode::Have(tuple(start, items), MAX_LEVEL)),
-        _ => Advance::Done(Outcome::Refused),
+        _other => Advance::Done(Outcome::Refused),
     }
 }
 
@@ -117,20 +117,45 @@ fn barred(stack: &mut Vec<Frame>, of: Opener, items: Parts) -> Result<Advance, N
             stack.push(Frame::InTail(start, items))?;
             Ok(Advance::Take(Mode::Need))
         }
-        _ => Ok(Advance::Done(Outcome::Refused)),
+        _other => Ok(Advance::Done(Outcome::Refused)),
     }
 }
 
 /// Another clause follows.
-fn followed(alloc: Global, of: Opener, items: Parts) -> Result<Advance, NoMemory>
-    ensures { IfOk result (λ a. (K : List Kept) → done a K ≡ m.followed 128 (opener of) (parts items) (frames K)) }
+#[tactic(auto, using(crate::proofs::Stack::laws))]
+fn followed(
+    alloc: Global,
+    stack: &mut Vec<Frame>,
+    of: Opener,
+    items: Parts,
+) -> Result<Advance, NoMemory>
+    ensures { IfOk result (λ a. done a stack.new.items ≡ m.followed 128 (opener of) (parts items) (frames stack.old.items)) }
 {
     match of {
         Opener::Body(name, before, start, patterns) => {
             let clauses = put_clause(alloc, before, start, patterns, items)?;
             Ok(Advance::Take(Mode::NeedName(name, clauses)))
         }
-        _ => Ok(Advance::Done(Outcome::Refused)),
+        Opener::Branch(start, arg, before, pattern) => {
+            let branches = put_branch(alloc, before, pattern, items)?;
+            stack.push(Frame::InPattern(start, arg, branches))?;
+            Ok(Advance::Take(Mode::Need))
+        }
+        _other => Ok(Advance::Done(Outcome::Refused)),
+    }
+}
+
+/// The `case` ends.
+fn concluded(alloc: Global, of: Opener, items: Parts) -> Result<Advance, NoMemory>
+    ensures { IfOk result (λ a. (K : List Kept) → done a K ≡ m.concluded 128 (opener of) (parts items) (frames K)) }
+{
+    match of {
+        Opener::Branch(start, arg, before, pattern) => {
+            let branches = put_branch(alloc, before, pattern, items)?;
+            let whole = chosen(alloc, start, arg, branches)?;
+            Ok(Advance::Take(Mode::Have(whole, MAX_LEVEL)))
+        }
+        _other => Ok(Advance::Done(Outcome::Refused)),
     }
 }
 
@@ -143,7 +168,7 @@ fn finished(alloc: Global, of: Opener, items: Parts) -> Result<Advance, NoMemory
             let clauses = put_clause(alloc, before, start, patterns, items)?;
             Ok(Advance::Done(Outcome::Function(clauses)))
         }
-        _ => Ok(Advance::Done(Outcome::Refused)),
+        _other => Ok(Advance::Done(Outcome::Refused)),
     }
 }
 
@@ -165,8 +190,9 @@ fn listed(
         }
         Ahead::Close(bracket) => ended(alloc, stack, bracket, of, items),
         Ahead::Bar => barred(stack, of, items),
-        Ahead::Semicolon => followed(alloc, of, items),
-        Ahead::End => finished(alloc, of, items),
+        Ahead::Semicolon => followed(alloc, stack, of, items),
+        Ahead::End => concluded(alloc, of, items),
+        Ahead::Nothing => finished(alloc, of, items),
         _ => Ok(Advance::Done(Outcome::Refused)),
     }
 }
@@ -203,6 +229,49 @@ fn tail_read(
     }
 }
 
+/// The argument of the `case` that stands at `start` is read.
+#[tactic(auto, using(crate::proofs::Stack::laws))]
+fn argued(
+    alloc: Global,
+    stack: &mut Vec<Frame>,
+    start: Place,
+    read: Part,
+    ahead: Ahead,
+) -> Result<Advance, NoMemory>
+    ensures { IfOk result (λ a. done a stack.new.items ≡ m.argued 128 start (part read) (frames stack.old.items) ahead) }
+{
+    match ahead {
+        Ahead::Of => {
+            stack.push(Frame::InPattern(start, read, no_group(alloc)))?;
+            Ok(Advance::Take(Mode::Need))
+        }
+        _ => Ok(Advance::Done(Outcome::Refused)),
+    }
+}
+
+/// The pattern of a clause of a `case` is read.
+#[tactic(auto, using(crate::proofs::Stack::laws))]
+fn pattern_read(
+    alloc: Global,
+    stack: &mut Vec<Frame>,
+    start: Place,
+    arg: Part,
+    before: Group,
+    read: Part,
+    ahead: Ahead,
+) -> Result<Advance, NoMemory>
+    ensures { IfOk result (λ a. done a stack.new.items ≡ m.pattern_read 128 start (part arg) (group before) (part read) (frames stack.old.items) ahead) }
+{
+    match ahead {
+        Ahead::Arrow => {
+            let body = Opener::Branch(start, arg, before, read);
+            stack.push(Frame::InList(body, no_parts(alloc)))?;
+            Ok(Advance::Take(Mode::Need))
+        }
+        _ => Ok(Advance::Done(Outcome::Refused)),
+    }
+}
+
 /// No token goes on with the expression, so the innermost frame takes it.
 #[tactic(auto, using(crate::proofs::Stack::laws))]
 fn close(
@@ -215,7 +284,7 @@ fn close(
 {
     match stack.pop() {
         None => match ahead {
-            Ahead::End => Ok(Advance::Done(Outcome::Expression(read))),
+            Ahead::Nothing => Ok(Advance::Done(Outcome::Expression(read))),
             _ => Ok(Advance::Done(Outcome::Refused)),
         },
         Some(Frame::InParens(start)) => Ok(unwrapped(start, read, ahead)),
@@ -226,6 +295,10 @@ fn close(
         ))),
         Some(Frame::InList(of, items)) => listed(alloc, stack, of, put_in(items, read)?, ahead),
         Some(Frame::InTail(start, items)) => tail_read(alloc, start, items, read, ahead),
+        Some(Frame::InCase(start)) => argued(alloc, stack, start, read, ahead),
+        Some(Frame::InPattern(start, arg, before)) => {
+            pattern_read(alloc, stack, start, arg, before, read, ahead)
+        }
     }
 }
 
@@ -323,6 +396,10 @@ fn begin(
         Ahead::Int(value) => Ok(single(place, Node::Int(value))),
         Ahead::Open(bracket) => bracketed(alloc, stack, bracket, place),
         Ahead::Close(bracket) => ended_empty(alloc, stack, bracket),
+        Ahead::Case => {
+            stack.push(Frame::InCase(place))?;
+            Ok(Advance::Take(Mode::Need))
+        }
         _ => Ok(Advance::Done(Outcome::Refused)),
     }
 }

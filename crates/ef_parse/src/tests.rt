@@ -6,7 +6,7 @@ ghost use Rattle.ef_token.specs.TokenForm.{KindOf, TokensOf};
 use crate::{clauses, expression};
 use ef_base::{Names, Place, Refusal};
 use ef_forms::{Expr, Node, weight};
-use ef_token::{Sym, Token, TokenKind};
+use ef_token::{Sym, Token, TokenKind, Word};
 use std::alloc::{AllocError, Global};
 use std::test::Fail;
 
@@ -17,8 +17,13 @@ fn kind_of(names: &Names, letter: char) -> TokenKind
         'a' => atom(names, "a"),
         'b' => atom(names, "b"),
         'X' => variable(names, "X"),
+        'Y' => variable(names, "Y"),
         '_' => variable(names, "_"),
         '1' => TokenKind::Int(1),
+        'c' => TokenKind::Word(Word::Case),
+        'o' => TokenKind::Word(Word::Of),
+        'w' => TokenKind::Word(Word::When),
+        'e' => TokenKind::Word(Word::End),
         _ => symbol(letter),
     }
 }
@@ -85,12 +90,13 @@ fn table(alloc: Global) -> Result<Names, Fail> {
     names.intern("a")?;
     names.intern("b")?;
     names.intern("X")?;
+    names.intern("Y")?;
     names.intern("_")?;
     Ok(names)
 }
 
 // What an expression is, and where: `l` a list, `|` a list with a tail, `t` a tuple, `=` a match, `c` a call, `r` a
-// remote call.
+// remote call, `k` a case.
 fn shape(expr: &Expr) -> (char, u32) {
     let letter = match &expr.node {
         Node::Int(_) => '1',
@@ -103,6 +109,7 @@ fn shape(expr: &Expr) -> (char, u32) {
         Node::Match { .. } => '=',
         Node::Call { .. } => 'c',
         Node::Remote { .. } => 'r',
+        Node::Case { .. } => 'k',
     };
     (letter, expr.place.column)
 }
@@ -148,6 +155,19 @@ fn expressions(rt: HostRuntime) -> Result<(), Fail> {
         ("(X=1)=1", ('=', 1, 5)),
         ("[](1)", ('c', 1, 3)),
         ("a(X=1,1)", ('c', 1, 6)),
+        ("cXo_>1e", ('k', 1, 4)),
+        ("(cXo_>1e)", ('k', 2, 4)),
+        ("a(cXo1>a;{Y,_}>Ye)", ('c', 1, 10)),
+        ("cXoY>a,Ye", ('k', 1, 5)),
+        ("cX=1oY=1>Y=1e", ('k', 1, 10)),
+        ("cXoY>c1o_>ae,1;_>ae", ('k', 1, 10)),
+        ("ccXoY>Yeo_>1e", ('k', 1, 7)),
+        ("cXocYo_>1e>ae", ('k', 1, 7)),
+        ("X=cXo_>1e", ('=', 1, 6)),
+        ("cXo_>1e=1", ('=', 1, 6)),
+        ("cXo_>1e(1)", ('c', 1, 6)),
+        ("a:cXo_>1e()", ('r', 1, 6)),
+        ("[cXo_>1e|cXo_>1e]", ('|', 1, 9)),
     ];
     for (text, want) in table {
         assert_eq!(rt; read(rt.alloc(), text)?, want, "{text}");
@@ -158,9 +178,67 @@ fn expressions(rt: HostRuntime) -> Result<(), Fail> {
 #[test]
 fn what_is_no_expression(rt: HostRuntime) -> Result<(), Fail> {
     let table = [
-        "", "a:a", "a:a:a(1)", "a(1)(1)", "a(1,)", "()", "a(1", "a)", "X.", "[1|]", "[|a]", "[a,]",
-        "{a,}", "[a b]", "[1|1,1]", "[1|1|1]", "{1|1}", "a(1|1)", "[1", "[1)", "{1]", "[1;1]",
-        "a=", "=a", "a:b=1", "X=1=", "X=(1", "a;a", "[]=;", "1 1",
+        "",
+        "a:a",
+        "a:a:a(1)",
+        "a(1)(1)",
+        "a(1,)",
+        "()",
+        "a(1",
+        "a)",
+        "X.",
+        "[1|]",
+        "[|a]",
+        "[a,]",
+        "{a,}",
+        "[a b]",
+        "[1|1,1]",
+        "[1|1|1]",
+        "{1|1}",
+        "a(1|1)",
+        "[1",
+        "[1)",
+        "{1]",
+        "[1;1]",
+        "a=",
+        "=a",
+        "a:b=1",
+        "X=1=",
+        "X=(1",
+        "a;a",
+        "[]=;",
+        "1 1",
+        "c",
+        "o",
+        "e",
+        "a>a",
+        "cXo1>a",
+        "cX1>ae",
+        "cXoe",
+        "cXo1>a;e",
+        "cXoYe",
+        "co1>ae",
+        "cXo>ae",
+        "cXo1>e",
+        "cXo1>a,e",
+        "cXo1w1>ae",
+        "cX,1o1>ae",
+        "cXo1,1>ae",
+        "cXo1>a;1e",
+        "cXo1>a|ae",
+        "cXo1>a)e",
+        "cXo1>(ae",
+        "(cXo1>a)",
+        "cXo1>aee",
+        "cXo1>a:ae",
+        "cX;o1>ae",
+        "cXo;1>ae",
+        "cXo1>a>ae",
+        "cXo1>a.e",
+        "aoe",
+        "a(o",
+        "[1e]",
+        "{cXo1>a,e}",
     ];
     for text in table {
         assert_eq!(rt; read(rt.alloc(), text)?, ('s', 1, 0), "{text}");
@@ -229,6 +307,17 @@ fn nesting(rt: HostRuntime) -> Result<(), Fail> {
         (127, "X=", "", ('=', 1, 255)),
         (128, "X=", "", ('d', 1, 0)),
         (20000, "X=", "", ('d', 1, 0)),
+        (127, "c", "o_>1e", ('k', 1, 382)),
+        (128, "c", "o_>1e", ('d', 1, 0)),
+        (127, "cXo", ">1e", ('k', 1, 382)),
+        (128, "cXo", ">1e", ('d', 1, 0)),
+        (127, "cXo_>1,", "e", ('k', 1, 509)),
+        (128, "cXo_>1,", "e", ('d', 1, 0)),
+        (127, "cXo1>a;_>", "e", ('k', 1, 636)),
+        (128, "cXo1>a;_>", ";_>1e", ('d', 1, 0)),
+        (20000, "cXo_>", "e", ('d', 1, 0)),
+        (128, "c", "", ('s', 1, 0)),
+        (20000, "cXo_>", "", ('s', 1, 0)),
     ];
     for (pairs, open, close, want) in table {
         assert_eq!(rt;
@@ -236,6 +325,48 @@ fn nesting(rt: HostRuntime) -> Result<(), Fail> {
             want,
             "{pairs} {open}"
         );
+    }
+    Ok(())
+}
+
+// Where a case stands, and where its first and its last clause and the last pattern do, which has so many expressions.
+fn places(alloc: Global, text: &str) -> Result<Option<(u32, u32, u32, u32, usize)>, Fail> {
+    let names = table(alloc)?;
+    let tokens = tokens(alloc, &names, text)?;
+    let Ok(expr) = expression(alloc, &names, tokens.as_slice()) else {
+        return Ok(None);
+    };
+    let Node::Case { clauses, .. } = &expr.node else {
+        return Ok(None);
+    };
+    let (Some(first), Some(last)) = (clauses.first(), clauses.last()) else {
+        return Ok(None);
+    };
+    Ok(match last.patterns.as_slice() {
+        [pattern] => Some((
+            expr.place.column,
+            first.place.column,
+            last.place.column,
+            pattern.place.column,
+            last.body.len(),
+        )),
+        _ => None,
+    })
+}
+
+#[test]
+fn cases(rt: HostRuntime) -> Result<(), Fail> {
+    let table = [
+        ("cXo_>1e", Some((1, 4, 4, 4, 1))),
+        ("((cXo_>1e))", Some((3, 6, 6, 6, 1))),
+        ("cXo1>a;{Y,_}>Ye", Some((1, 4, 8, 8, 1))),
+        ("cXo(1)>a;((_))>a,1e", Some((1, 4, 10, 12, 2))),
+        ("cXo1>a;(Y)=1>a;a(_)=_>a,a,ae", Some((1, 4, 16, 16, 3))),
+        ("cc1o1>1eoc1o1>1e>c1o1>1e,ae", Some((1, 10, 10, 10, 2))),
+        ("X=cXo_>1e", None),
+    ];
+    for (text, want) in table {
+        assert_eq!(rt; places(rt.alloc(), text)?, want, "{text}");
     }
     Ok(())
 }
@@ -276,9 +407,50 @@ fn clauses_of_functions(rt: HostRuntime) -> Result<(), Fail> {
         ("a(1)>1)", None),
         ("a(X,)>1", None),
         ("", None),
+        ("a(X)>cXo1>a;_>Xe;a(_)>1,cXo_>1;Y>Ye", Some((2, 1, 2))),
+        ("a(cXo_>1e)>a,a;a(X)>cXoa>X;a()>Xe", Some((2, 1, 1))),
+        ("a(X)>cXo1>a;a(_)>1", None),
+        ("a(X)>cXo1>ae;", None),
+        ("a(X)>1;a(X)>cXo1>a", None),
+        ("a(X)>1e", None),
+        ("cXo_>1e", None),
     ];
     for (text, want) in table {
         assert_eq!(rt; last_clause(rt.alloc(), text)?, want, "{text}");
+    }
+    Ok(())
+}
+
+// How many clauses there are, of which the last has so many cases in one another, or the fault.
+fn nested_cases(alloc: Global, pairs: u32) -> Result<(usize, u16), Fail> {
+    let names = table(alloc)?;
+    let mut text = String::new(alloc);
+    text.push_str("a(1)>1;a(X)>")?;
+    for _ in 0..pairs {
+        text.push_str("cXo_>")?;
+    }
+    text.push('X')?;
+    for _ in 0..pairs {
+        text.push('e')?;
+    }
+    let tokens = tokens(alloc, &names, text.as_str())?;
+    Ok(match clauses(alloc, &names, tokens.as_slice()) {
+        Ok(clauses) => (clauses.len(), 0),
+        Err(Refusal::Faulty(fault)) => (0, fault.code),
+        Err(Refusal::NoMemory) => (0, 0),
+    })
+}
+
+#[test]
+fn nesting_of_clauses(rt: HostRuntime) -> Result<(), Fail> {
+    let table = [
+        (0, (2, 0)),
+        (127, (2, 0)),
+        (128, (0, 608)),
+        (20000, (0, 608)),
+    ];
+    for (pairs, want) in table {
+        assert_eq!(rt; nested_cases(rt.alloc(), pairs)?, want, "{pairs}");
     }
     Ok(())
 }

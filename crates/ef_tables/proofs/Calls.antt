@@ -1,19 +1,20 @@
 -- Calls, exports and whole modules.
-use Rattle.std.proofs.Common.{◌≡◌, ℕ, List, [], ◌∷◌, ◌++◌, length, map, sym, ap, ◌∙◌, subst, Bool, true, false, ◌≤◌, arith, Vec}
+use Rattle.std.proofs.Common.{◌≡◌, ℕ, List, [], ◌∷◌, ◌++◌, length, map, sym, ap, ◌∙◌, subst, Bool, true, false, ◌≤◌, arith, Box, Vec}
 use Rattle.std.specs.Prelude.{IsTrue, ◌↔◌, MatchOption, Option, Some}
 use Rattle.std.specs.declared.alloc.Global.{Global}
 use Rattle.ef_base.specs.declared.name.Name.{Name}
 use Rattle.ef_base.specs.declared.fault.Place.{Place}
 use Rattle.ef_base.specs.Texts.{Texts, Extends, HasName}
 use Rattle.ef_forms.specs.declared.expr.Expr.{Expr}
+use Rattle.ef_forms.specs.declared.expr.Clause.{Clause, out-Clause}
 use Rattle.ef_forms.specs.declared.expr.Node.TheVariants as node
 use Rattle.ef_forms.specs.declared.form.FunctionRef.{FunctionRef}
 use Rattle.ef_forms.specs.declared.tables.FunctionName.{FunctionName}
-use Rattle.ef_forms.specs.Tree.{Trees, FormTree, PlacedTree, ModuleTree, tree, atom, count, clause, no_clauses, module_name, export, function}
-use Rattle.ef_forms.specs.OfTable.{FormOf, FormsOf, ReferencesOf, ModuleOf}
-use Rattle.ef_forms.specs.Built.{IsDefined, IsCallOf, IsDistinct, Each, IsBuilt, IsBuiltFunction, AreBuilt, AreBuiltClauses, ArePatterns, defined_in, exports_in, exports_of, functions_in, name_of}
-use Rattle.ef_forms.specs.Plain.{plain, plain_node, plain_all, plain_guard}
-use Rattle.ef_forms.proofs.Plain.{plain_expr, plain_atom, counted}
+use Rattle.ef_forms.specs.Tree.{Trees, FormTree, PlacedTree, ModuleTree, tree, atom, case_of, count, clause, no_clauses, module_name, export, function}
+use Rattle.ef_forms.specs.OfTable.{FormOf, FormsOf, ReferencesOf, ModuleOf, TreeOf, ClausesOf}
+use Rattle.ef_forms.specs.Built.{IsDefined, IsCallOf, IsDistinct, Each, IsBuilt, IsBuiltFunction, IsBuiltTree, AreBuilt, AreBuiltClauses, AreSome, ArePatterns, defined_in, exports_in, exports_of, functions_in, name_of}
+use Rattle.ef_forms.specs.Plain.{plain, plain_node, plain_all, plain_clauses, plain_guard}
+use Rattle.ef_forms.proofs.Plain.{plain_expr, plain_atom, plain_case, counted}
 use Rattle.ef_forms.proofs.Built.{built_later, built_before}
 use Rattle.ef_tables.specs.declared.function_set.FunctionSet.{FunctionSet}
 use Rattle.ef_tables.specs.Sets as sets
@@ -62,16 +63,61 @@ says now m b functions exports of f e distinct_f distinct_e defined bodies all l
   λ built. bodies.1 (subst (λ l. Each (IsBuiltFunction now l) (functions_in m.forms)) (sym f) (built_before now all m of later built).bodies),
 )
 
--- a guard
-pub guarded : (texts : Texts) (defined : List FunctionName) (arity : ℕ) (p : Place) (ps body : Trees) (gs : List (Vec Expr Global)) → 1 ≤ length gs
-    → AreBuiltClauses texts defined arity (clause p ps (plain_guard gs) body no_clauses) → ⊥
-guarded texts defined arity p ps body [] given built = omega arith
-guarded texts defined arity p ps body (g ∷ gs) given built = built
+-- ---- clauses
 
-pub unguarded : (texts : Texts) (defined : List FunctionName) (arity : ℕ) (p : Place) (ps body : Trees) (gs : List (Vec Expr Global)) (b : Bool) → length gs ≡ 0
-    → count ps ≡ arity → ArePatterns ps → (IsTrue b ↔ AreBuilt texts defined body) → IsTrue b ↔ AreBuiltClauses texts defined arity (clause p ps (plain_guard gs) body no_clauses)
-unguarded texts defined arity p ps body [] b none counts patterns same = (λ yes. (counts, patterns, same.0 yes, tt), λ built. same.1 built.2)
-unguarded texts defined arity p ps body (g ∷ gs) b none counts patterns same = absurd (omega arith)
+guard_given : (texts : Texts) (defined : List FunctionName) (arity : ℕ) (p : Place) (ps body : Trees) (gs : List (Vec Expr Global)) → 1 ≤ length gs
+    → AreBuiltClauses texts defined arity (clause p ps (plain_guard gs) body no_clauses) → ⊥
+guard_given texts defined arity p ps body [] given built = omega arith
+guard_given texts defined arity p ps body (g ∷ gs) given built = built
+
+no_guard_given : (texts : Texts) (defined : List FunctionName) (arity : ℕ) (p : Place) (ps body : Trees) (gs : List (Vec Expr Global)) (b : Bool) → length gs ≡ 0
+    → count ps ≡ arity → ArePatterns ps → 1 ≤ count body → (IsTrue b ↔ AreBuilt texts defined body) → IsTrue b ↔ AreBuiltClauses texts defined arity (clause p ps (plain_guard gs) body no_clauses)
+no_guard_given texts defined arity p ps body [] b none counts patterns some same = (λ yes. (counts, patterns, some, same.0 yes, tt), λ built. same.1 built.3)
+no_guard_given texts defined arity p ps body (g ∷ gs) b none counts patterns some same = absurd (omega arith)
+
+built_parts : (texts : Texts) (defined : List FunctionName) (arity : ℕ) (p : Place) (ps body : Trees) (gs : List (Vec Expr Global))
+    → AreBuiltClauses texts defined arity (clause p ps (plain_guard gs) body no_clauses) → (count ps ≡ arity) × (1 ≤ count body)
+built_parts texts defined arity p ps body [] built = (built.0, built.2)
+built_parts texts defined arity p ps body (g ∷ gs) built = absurd built
+
+module _ (texts : Texts) (defined : List FunctionName) (arity : ℕ) (c : Clause) where
+  abbrev pub Told : Bool → Type 0
+  Told b = IsTrue b ↔ AreBuiltClauses texts defined arity (plain_clauses (c ∷ []))
+
+  not_built : (AreBuiltClauses texts defined arity (plain_clauses (c ∷ [])) → ⊥) → Told false
+  not_built refused = (λ wrong. let bad : false ≡ true = wrong in cc, λ built. absurd (refused built))
+
+  pub guarded : 1 ≤ length (out-Clause c).guard.items → Told false
+  guarded given = not_built (λ built. guard_given texts defined arity (out-Clause c).place (plain_all (out-Clause c).patterns.items) (plain_all (out-Clause c).body.items) (out-Clause c).guard.items given built)
+
+  pub of_another_number : (length (out-Clause c).patterns.items ≡ arity → ⊥) → Told false
+  of_another_number other = not_built (λ built. let is = built_parts texts defined arity (out-Clause c).place (plain_all (out-Clause c).patterns.items) (plain_all (out-Clause c).body.items) (out-Clause c).guard.items built in other (sym (counted (out-Clause c).patterns.items) ∙ is.0))
+
+  pub unguarded : (patterns body : List Expr) (b : Bool) → length (out-Clause c).guard.items ≡ 0 → length (out-Clause c).patterns.items ≡ arity → 1 ≤ length (out-Clause c).body.items
+      → patterns ≡ (out-Clause c).patterns.items → body ≡ (out-Clause c).body.items → ArePatterns (plain_all patterns) → (IsTrue b ↔ AreBuilt texts defined (plain_all body)) → Told b
+  unguarded patterns body b none counts some read read' are same =
+      no_guard_given texts defined arity (out-Clause c).place (plain_all (out-Clause c).patterns.items) (plain_all (out-Clause c).body.items) (out-Clause c).guard.items b none
+      (counted (out-Clause c).patterns.items ∙ counts) (subst (λ l. ArePatterns (plain_all l)) read are) (omega (arith, counted (out-Clause c).body.items)) (subst (λ l. IsTrue b ↔ AreBuilt texts defined (plain_all l)) read' same)
+
+-- ---- case
+
+module _ (texts : Texts) (defined : List FunctionName) (e : Expr) (arg : Box Expr Global) (cs : Vec Clause Global) (clauses : List Clause) (is : e.node ≡ node.Case arg cs) (read : clauses ≡ cs.items) where
+  case_is : plain e ≡ tree e.place (case_of (plain arg.value) (plain_clauses clauses))
+  case_is = plain_expr e ∙ ap (tree e.place) (ap plain_node is ∙ plain_case arg cs) ∙ ap (λ l. tree e.place (case_of (plain arg.value) (plain_clauses l))) (sym read)
+
+  pub clauses_names : TreeOf texts (plain e) → ClausesOf texts (plain_clauses clauses)
+  clauses_names names = (subst (TreeOf texts) case_is names).1
+
+  some_clause : (l : List Clause) → 1 ≤ length l → AreSome (plain_clauses l)
+  some_clause [] given = absurd (omega arith)
+  some_clause (c ∷ l) given = tt
+
+  pub case_told : (of : Expr) (b : Bool) → of ≡ arg.value → 1 ≤ length clauses → IsBuiltTree texts defined (plain of)
+      → (IsTrue b ↔ AreBuiltClauses texts defined 1 (plain_clauses clauses)) → IsTrue b ↔ IsBuiltTree texts defined (plain e)
+  case_told of b same given built told = subst (λ t. IsTrue b ↔ IsBuiltTree texts defined t) (sym case_is) (
+    λ yes. (subst (λ a. IsBuiltTree texts defined (plain a)) same built, some_clause clauses given, told.0 yes),
+    λ all. told.1 all.2,
+  )
 
 pub found_set : (functions : List FunctionName) (found : Option FunctionSet) (set : FunctionSet) → found ≡ Some set
     → MatchOption found (IsDistinct functions → ⊥) (λ s. IsDistinct functions × (s ≡ functions)) → IsDistinct functions × (set ≡ functions)

@@ -15,9 +15,9 @@ use std::alloc::Global;
 
 /// Whether the module is one that is built: the functions that it exports and calls are defined in it, nothing is
 /// defined or exported twice, `module_info/0` and `module_info/1` are not defined, and no call is of the module
-/// `erlang`. Clauses have no guards, each as many patterns as its function has parameters. Expressions are variables,
-/// `_`, integers, atoms, lists, tuples, matches with patterns, and calls; patterns are the first six. The tables are
-/// those of the module.
+/// `erlang`. Clauses have no guards, each as many patterns as its function has parameters, and a body that isn't empty.
+/// Expressions are variables, `_`, integers, atoms, lists, tuples, matches with patterns, calls, and `case` with a clause
+/// or more, each of one pattern; patterns are the first six. The tables are those of the module.
 pub fn is_built(
     alloc: Global,
     names: &Names,
@@ -115,6 +115,7 @@ fn is_built_function(names: &Names, defined: &FunctionSet, function: &Function) 
 }
 
 // Whether the clauses have so many patterns each, no guards, and patterns and bodies that are built.
+#[cycle(built)]
 fn are_built_clauses(names: &Names, defined: &FunctionSet, arity: usize, clauses: &[Clause]) -> bool
     requires { ClausesOf names.now (plain_clauses clauses.now) }
     ensures { IsTrue result ↔ AreBuiltClauses names.now defined.now arity (plain_clauses clauses.now) }
@@ -127,15 +128,18 @@ fn are_built_clauses(names: &Names, defined: &FunctionSet, arity: usize, clauses
     true
 }
 
-#[tactic(auto, using(ef_forms::proofs::Plain::counted))]
+#[cycle(built)]
 fn is_built_clause(names: &Names, defined: &FunctionSet, arity: usize, clause: &Clause) -> bool
-    requires { TreesOf names.now (plain_all clause.now.body.items) }
+    requires { ClausesOf names.now (plain_clauses (clause.now ∷ [])) }
     ensures { IsTrue result ↔ AreBuiltClauses names.now defined.now arity (plain_clauses (clause.now ∷ [])) }
 {
     if !clause.guard.is_empty() {
         return false;
     }
     if clause.patterns.len() != arity {
+        return false;
+    }
+    if clause.body.is_empty() {
         return false;
     }
     are_patterns(&clause.patterns) && are_built(names, defined, &clause.body)
@@ -155,7 +159,7 @@ fn is_pattern(expr: &Expr) -> bool
             tail: Some(tail),
         } => are_patterns(items) && is_pattern(tail),
         Node::Tuple(items) => are_patterns(items),
-        Node::Match { .. } | Node::Call { .. } | Node::Remote { .. } => false,
+        Node::Match { .. } | Node::Call { .. } | Node::Remote { .. } | Node::Case { .. } => false,
     }
 }
 
@@ -196,6 +200,12 @@ fn is_built_expr(names: &Names, defined: &FunctionSet, expr: &Expr) -> bool
         } => is_foreign_module(names, module)
             && is_atom(function)
             && are_built(names, defined, args),
+        Node::Case { arg, clauses } => {
+            if clauses.is_empty() {
+                return false;
+            }
+            is_built_expr(names, defined, arg) && are_built_clauses(names, defined, 1, clauses)
+        }
     }
 }
 

@@ -1,3 +1,11 @@
-pub mod Words
-pub mod Grown
-pub mod Steps
+pub mod Adds
+pub mod MarkLaws
+pub mod TrailLaws
+pub mod Joins
+pub mod Lists
+pub mod Parts
+pub mod Beside
+pub mod Choices
+pub mod Bodies
+pub mod Patterns
+pub mod Nodes

@@ -1,2 +1,3 @@
-pub mod Bits
-pub mod Shows
+pub mod Marks
+pub mod Trail
+pub mod Walks

@@ -1,21 +1,22 @@
 // The walk over the clauses of a function.
-ghost use Rattle.std.specs.Prelude.{◌≡◌, ◌||◌, ◌∷◌, [], ℕ, List, IfOk, OnOk, map};
+ghost use Rattle.std.specs.Prelude.{◌≡◌, ◌∷◌, [], List, IfOk, OnOk};
 ghost use Rattle.ef_base.specs.Faults.{set_of};
 ghost use Rattle.ef_base.specs.Texts.{Extends, HasName, Texts};
 ghost use Rattle.ef_forms.specs.OfTable.{ClausesOf, FunctionOf, TreeOf, TreesOf};
 ghost use Rattle.ef_forms.specs.Plain.{plain, plain_all, plain_clauses, plain_function};
-ghost use Rattle.ef_forms.specs.Ways.{NameSet, all_faults, all_names, body_faults, clauses_faults, faults, function_faults, no_names, use_faults};
-ghost use Rattle.ef_forms.specs.Ways as ways;
-ghost use Rattle.ef_scope.specs.Bits.{bits_of};
-ghost use Rattle.ef_scope.specs.Shows.{Adds, Shows, unbound_words};
+ghost use Rattle.ef_forms.specs.Ways.{all_faults, bind, body_faults, body_ways, clauses_faults, clauses_ways, faults, function_faults, one_name, side_by_side, use_faults, ways};
+ghost use Rattle.ef_scope.specs.Walks.{Walks};
 
-use crate::row::Row;
-use ef_base::{Bytes, Fault, FaultList, Name, Names, NoMemory, Place};
+use crate::fault::{UNBOUND, add_fault, check_use};
+use crate::marks::Mark;
+use crate::pattern::{match_pattern, match_patterns};
+use crate::state::{Aside, State};
+use ef_base::{FaultList, Name, Names, NoMemory, Place};
 use ef_forms::{Clause, Expr, Function, Node, Tables};
 use std::alloc::Global;
 
-/// The faults of the function: the uses of names that are bound on no way. As far as trees are built, the tables are
-/// not looked at.
+/// The faults of the function: the uses of names that are bound on no way, and those of names that are bound on some
+/// ways and not on all. As far as trees are built, the tables are not looked at.
 pub fn scope_faults(
     alloc: Global,
     names: &Names,
@@ -26,54 +27,67 @@ pub fn scope_faults(
     ensures { IfOk result (λ l. (all : Texts) → Extends names.now all → l ≡ set_of (function_faults all (plain_function function.now))) }
 {
     let mut found = FaultList::new(alloc);
-    check_clauses(alloc, names, &function.clauses, &mut found)?;
+    let mut state = State::new(alloc);
+    check_clauses(alloc, names, &function.clauses, &mut state, &mut found)?;
     Ok(found)
 }
 
+// What some clause binds is bound behind the clauses on some way, and what each binds on all.
+#[cycle(check)]
 fn check_clauses(
     alloc: Global,
     names: &Names,
     clauses: &[Clause],
+    state: &mut State,
     found: &mut FaultList,
 ) -> Result<(), NoMemory>
     requires { ClausesOf names.now (plain_clauses clauses.now) }
-    ensures { OnOk result (Adds (clauses_faults names.now (plain_clauses clauses.now) (no_names ∷ [])) found.old found.new) }
+    ensures { OnOk result (Walks (clauses_ways (plain_clauses clauses.now)) (clauses_faults names.now (plain_clauses clauses.now)) state.old state.new found.old found.new) }
 {
-    for clause in clauses {
-        check_clause(alloc, names, clause, found)?;
+    let [first, rest @ ..] = clauses else {
+        return Ok(());
+    };
+    let start = state.len();
+    let mut choices = Aside::new(alloc);
+    check_clause(alloc, names, first, state, found)?;
+    state.set_aside(start, &mut choices)?;
+    for clause in rest {
+        check_clause(alloc, names, clause, state, found)?;
+        state.set_aside_choice(start, &mut choices)?;
     }
+    state.put(&choices)?;
     Ok(())
 }
 
+#[cycle(check)]
 fn check_clause(
     alloc: Global,
     names: &Names,
     clause: &Clause,
+    state: &mut State,
     found: &mut FaultList,
 ) -> Result<(), NoMemory>
     requires { ClausesOf names.now (plain_clauses (clause.now ∷ [])) }
-    ensures { OnOk result (Adds (clauses_faults names.now (plain_clauses (clause.now ∷ [])) (no_names ∷ [])) found.old found.new) }
+    ensures { OnOk result (Walks (clauses_ways (plain_clauses (clause.now ∷ []))) (clauses_faults names.now (plain_clauses (clause.now ∷ []))) state.old state.new found.old found.new) }
 {
-    let mut bound = Row::new(alloc);
-    bind_all(&clause.patterns, &mut bound)?;
-    check_body(alloc, names, &clause.body, &mut bound, found)?;
-    Ok(())
+    match_patterns(alloc, names, &clause.patterns, state, found)?;
+    check_body(alloc, names, &clause.body, state, found)
 }
 
 // A body goes from left to right: what an expression binds is bound in the next.
+#[cycle(check)]
 fn check_body(
     alloc: Global,
     names: &Names,
     body: &[Expr],
-    bound: &mut Row,
+    state: &mut State,
     found: &mut FaultList,
 ) -> Result<(), NoMemory>
     requires { TreesOf names.now (plain_all body.now) }
-    ensures { OnOk result ((sets : List NameSet) → Shows sets bound.old → Adds (body_faults names.now (plain_all body.now) sets) found.old found.new) }
+    ensures { OnOk result (Walks (body_ways (plain_all body.now)) (body_faults names.now (plain_all body.now)) state.old state.new found.old found.new) }
 {
     for expr in body {
-        check(alloc, names, expr, bound, found)?;
-        bind(expr, bound)?;
+        check(alloc, names, expr, state, found)?;
     }
     Ok(())
 }
@@ -83,29 +97,41 @@ fn check(
     alloc: Global,
     names: &Names,
     expr: &Expr,
-    bound: &Row,
+    state: &mut State,
     found: &mut FaultList,
 ) -> Result<(), NoMemory>
     requires { TreeOf names.now (plain expr.now) }
-    ensures { OnOk result ((sets : List NameSet) → Shows sets bound.now → Adds (faults names.now (plain expr.now) sets) found.old found.new) }
+    ensures { OnOk result (Walks (ways (plain expr.now)) (faults names.now (plain expr.now)) state.old state.new found.old found.new) }
 {
     match &expr.node {
         Node::Int(_) | Node::Atom(_) => Ok(()),
-        Node::Var(name) => check_use(alloc, names, expr.place, *name, bound, found),
+        Node::Var(name) => use_name(alloc, names, expr.place, *name, state, found),
         // It is never bound.
-        Node::Any => add_unbound(alloc, expr.place, "_", found),
+        Node::Any => add_fault(alloc, expr.place, UNBOUND, "_", found),
         Node::List { items, tail } => {
-            check_all(alloc, names, items, bound, found)?;
-            match tail {
-                Some(tail) => check(alloc, names, tail, bound, found),
-                None => Ok(()),
-            }
+            let Some(tail) = tail else {
+                return check_all(alloc, names, items, state, found);
+            };
+            let start = state.len();
+            let mut aside = Aside::new(alloc);
+            check_all(alloc, names, items, state, found)?;
+            state.set_aside(start, &mut aside)?;
+            check(alloc, names, tail, state, found)?;
+            state.put(&aside)?;
+            Ok(())
         }
-        Node::Tuple(items) => check_all(alloc, names, items, bound, found),
-        Node::Match { left: _, right } => check(alloc, names, right, bound, found),
+        Node::Tuple(items) => check_all(alloc, names, items, state, found),
+        Node::Match { left, right } => {
+            check(alloc, names, right, state, found)?;
+            match_pattern(alloc, names, left, state, found)
+        }
         Node::Call { target, args } => {
-            check(alloc, names, target, bound, found)?;
-            check_all(alloc, names, args, bound, found)?;
+            let start = state.len();
+            let mut aside = Aside::new(alloc);
+            check(alloc, names, target, state, found)?;
+            state.set_aside(start, &mut aside)?;
+            check_all(alloc, names, args, state, found)?;
+            state.put(&aside)?;
             Ok(())
         }
         Node::Remote {
@@ -113,110 +139,60 @@ fn check(
             function,
             args,
         } => {
-            check(alloc, names, module, bound, found)?;
-            check(alloc, names, function, bound, found)?;
-            check_all(alloc, names, args, bound, found)?;
+            let start = state.len();
+            let mut modules = Aside::new(alloc);
+            let mut functions = Aside::new(alloc);
+            check(alloc, names, module, state, found)?;
+            state.set_aside(start, &mut modules)?;
+            check(alloc, names, function, state, found)?;
+            state.set_aside(start, &mut functions)?;
+            check_all(alloc, names, args, state, found)?;
+            state.put(&functions)?;
+            state.put(&modules)?;
             Ok(())
+        }
+        Node::Case { arg, clauses } => {
+            check(alloc, names, arg, state, found)?;
+            check_clauses(alloc, names, clauses, state, found)
         }
     }
 }
 
+// Parts side by side don't see each other's names.
 #[cycle(check)]
 fn check_all(
     alloc: Global,
     names: &Names,
     exprs: &[Expr],
-    bound: &Row,
+    state: &mut State,
     found: &mut FaultList,
 ) -> Result<(), NoMemory>
     requires { TreesOf names.now (plain_all exprs.now) }
-    ensures { OnOk result ((sets : List NameSet) → Shows sets bound.now → Adds (all_faults names.now (plain_all exprs.now) sets) found.old found.new) }
+    ensures { OnOk result (Walks (side_by_side (plain_all exprs.now)) (all_faults names.now (plain_all exprs.now)) state.old state.new found.old found.new) }
 {
+    let start = state.len();
+    let mut others = Aside::new(alloc);
     for expr in exprs {
-        check(alloc, names, expr, bound, found)?;
+        state.set_aside(start, &mut others)?;
+        check(alloc, names, expr, state, found)?;
     }
+    state.put(&others)?;
     Ok(())
 }
 
-fn check_use(
+// Behind a use the name counts as bound.
+fn use_name(
     alloc: Global,
     names: &Names,
     place: Place,
     name: Name,
-    bound: &Row,
+    state: &mut State,
     found: &mut FaultList,
 ) -> Result<(), NoMemory>
     requires { HasName names.now name }
-    ensures { OnOk result ((sets : List NameSet) → Shows sets bound.now → Adds (use_faults names.now place name sets) found.old found.new) }
+    ensures { OnOk result (Walks (bind (one_name name)) (use_faults names.now place name) state.old state.new found.old found.new) }
 {
-    if bound.has(name.index) {
-        return Ok(());
-    }
-    add_unbound(alloc, place, names.text(name), found)
-}
-
-fn add_unbound(
-    alloc: Global,
-    place: Place,
-    words: &str,
-    found: &mut FaultList,
-) -> Result<(), NoMemory>
-    ensures { OnOk result (Adds (unbound_words place words.now ∷ []) found.old found.new) }
-{
-    let words = Bytes::from_slice(alloc, words.as_bytes())?;
-    found.push(Fault {
-        place,
-        code: 451,
-        words,
-    })?;
-    Ok(())
-}
-
-// The variables of the expression are bound.
-#[cycle(bind)]
-fn bind(expr: &Expr, bound: &mut Row) -> Result<(), NoMemory>
-    ensures { OnOk result ((m : ℕ) → bits_of bound.new m ≡ (bits_of bound.old m || ways.names (plain expr.now) m)) }
-{
-    match &expr.node {
-        Node::Int(_) | Node::Atom(_) | Node::Any => Ok(()),
-        Node::Var(name) => bound.insert(name.index),
-        Node::List { items, tail } => {
-            bind_all(items, bound)?;
-            match tail {
-                Some(tail) => bind(tail, bound),
-                None => Ok(()),
-            }
-        }
-        Node::Tuple(items) => bind_all(items, bound),
-        Node::Match { left, right } => {
-            bind(left, bound)?;
-            bind(right, bound)?;
-            Ok(())
-        }
-        Node::Call { target, args } => {
-            bind(target, bound)?;
-            bind_all(args, bound)?;
-            Ok(())
-        }
-        Node::Remote {
-            module,
-            function,
-            args,
-        } => {
-            bind(module, bound)?;
-            bind(function, bound)?;
-            bind_all(args, bound)?;
-            Ok(())
-        }
-    }
-}
-
-#[cycle(bind)]
-fn bind_all(exprs: &[Expr], bound: &mut Row) -> Result<(), NoMemory>
-    ensures { OnOk result ((m : ℕ) → bits_of bound.new m ≡ (bits_of bound.old m || all_names (plain_all exprs.now) m)) }
-{
-    for expr in exprs {
-        bind(expr, bound)?;
-    }
+    check_use(alloc, names, place, name, state, found)?;
+    state.raise(name.index, Mark::Safe)?;
     Ok(())
 }

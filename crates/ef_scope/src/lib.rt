@@ -1,8 +1,11 @@
-//! Uses of names that are bound on no way: exactly the faults that the rules of scope find.
+//! Uses of names that are not bound on every way: exactly the faults that the rules of scope find.
 #![tactic(auto)]
 
 mod check;
-mod row;
+mod fault;
+mod marks;
+mod pattern;
+mod state;
 #[cfg(test)]
 mod tests;
 

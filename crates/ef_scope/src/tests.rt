@@ -1,8 +1,9 @@
-// Uses that are bound on no way, by their places.
+// Uses that are bound on no way or not on all, by their places.
 //
-// In the texts `=` stands behind its sides, `]` ends a list, `|` ends one whose last item is its tail, and `( )` are the
-// arguments of a call: `X>{Y,YX=}` is `f(X) -> {Y, Y = X}`.
-ghost use Rattle.std.specs.Prelude.{IsTrue, ◌∷◌, []};
+// In the texts `=` stands behind its sides, `]` ends a list, `|` ends one whose last item is its tail, `( )` are the
+// arguments of a call, and `< /` are the clauses of a `case` of the item before: `X>{Y,YX=};` is `f(X) -> {Y, Y = X}`,
+// and `X>X<1>1;Y>Y;/;` is `f(X) -> case X of 1 -> 1; Y -> Y end`.
+ghost use Rattle.std.specs.Prelude.{IfOk, IsTrue, ◌∷◌, []};
 ghost use Rattle.ef_base.specs.Texts.{HasName, Texts};
 ghost use Rattle.ef_forms.specs.OfTable.{ClausesOf, TreeOf, TreesOf};
 ghost use Rattle.ef_forms.specs.Plain.{plain, plain_all, plain_clauses};
@@ -69,43 +70,79 @@ fn matched(alloc: Global, items: &mut Vec<Expr>) -> Result<Node, Fail> {
     })
 }
 
+// The `case` of the last item.
+fn choice(alloc: Global, items: &mut Vec<Expr>, clauses: Vec<Clause>) -> Result<Node, Fail> {
+    let arg = items.pop().ok_or("no argument")?;
+    Ok(Node::Case {
+        arg: Box::new(alloc, arg)?,
+        clauses,
+    })
+}
+
+// What is read so far between brackets.
+#[derive(Drop)]
+struct Level {
+    items: Vec<Expr>,
+    patterns: Vec<Expr>,
+    clauses: Vec<Clause>,
+}
+
+impl Level {
+    fn new(alloc: Global) -> Level {
+        Level {
+            items: Vec::new(alloc),
+            patterns: Vec::new(alloc),
+            clauses: Vec::new(alloc),
+        }
+    }
+}
+
 // The clauses of a text, and a `;` behind each.
 fn read(alloc: Global, text: &str) -> Result<Vec<Clause>, Fail> {
-    let mut items = Vec::new(alloc);
+    let mut level = Level::new(alloc);
     let mut outer = Vec::new(alloc);
-    let mut patterns = Vec::new(alloc);
-    let mut clauses = Vec::new(alloc);
     let mut column: u32 = 0;
     for letter in text.chars() {
         column = column.saturating_add(1);
         let place = place(column);
         match letter {
             ',' => {}
-            '{' | '[' | '(' => outer.push(mem::replace(&mut items, Vec::new(alloc)))?,
+            '{' | '[' | '(' | '<' => outer.push(mem::replace(&mut level, Level::new(alloc)))?,
             '}' | ']' | '|' | ')' => {
                 let before = outer.pop().ok_or("nothing is open")?;
-                let inner = mem::replace(&mut items, before);
-                let node = group(alloc, letter, inner)?;
-                items.push(Expr { place, node })?;
+                let inner = mem::replace(&mut level, before);
+                let node = group(alloc, letter, inner.items)?;
+                level.items.push(Expr { place, node })?;
+            }
+            '/' => {
+                let before = outer.pop().ok_or("nothing is open")?;
+                let inner = mem::replace(&mut level, before);
+                let node = choice(alloc, &mut level.items, inner.clauses)?;
+                level.items.push(Expr { place, node })?;
             }
             '=' => {
-                let node = matched(alloc, &mut items)?;
-                items.push(Expr { place, node })?;
+                let node = matched(alloc, &mut level.items)?;
+                level.items.push(Expr { place, node })?;
             }
-            '>' => patterns = mem::replace(&mut items, Vec::new(alloc)),
-            ';' => clauses.push(Clause {
-                place,
-                patterns: mem::replace(&mut patterns, Vec::new(alloc)),
-                guard: Vec::new(alloc),
-                body: mem::replace(&mut items, Vec::new(alloc)),
-            })?,
+            '>' => level.patterns = mem::replace(&mut level.items, Vec::new(alloc)),
+            ';' => {
+                let patterns = mem::replace(&mut level.patterns, Vec::new(alloc));
+                let body = mem::replace(&mut level.items, Vec::new(alloc));
+                let guard = Vec::new(alloc);
+                level.clauses.push(Clause {
+                    place,
+                    patterns,
+                    guard,
+                    body,
+                })?;
+            }
             _ => {
                 let node = leaf(letter).ok_or("another letter")?;
-                items.push(Expr { place, node })?;
+                level.items.push(Expr { place, node })?;
             }
         }
     }
-    Ok(clauses)
+    Ok(level.clauses)
 }
 
 // Whether the names are up to the last one.
@@ -126,6 +163,7 @@ fn is_within(expr: &Expr) -> bool
         Node::Match { left, right } => is_within(left) && is_within(right),
         Node::Call { target, args } => is_within(target) && are_within(args),
         Node::Remote { .. } => false,
+        Node::Case { arg, clauses } => is_within(arg) && are_clauses_within(clauses),
     }
 }
 
@@ -141,6 +179,7 @@ fn are_within(exprs: &[Expr]) -> bool
     true
 }
 
+#[cycle(within)]
 fn are_clauses_within(clauses: &[Clause]) -> bool
     ensures { IsTrue result → (all : Texts) → HasName all (record { index = 3 }) → ClausesOf all (plain_clauses clauses.now) }
 {
@@ -152,6 +191,7 @@ fn are_clauses_within(clauses: &[Clause]) -> bool
     true
 }
 
+#[cycle(within)]
 fn is_clause_within(clause: &Clause) -> bool
     ensures { IsTrue result → (all : Texts) → HasName all (record { index = 3 }) → ClausesOf all (plain_clauses (clause.now ∷ [])) }
 {
@@ -161,16 +201,20 @@ fn is_clause_within(clause: &Clause) -> bool
     are_within(&clause.patterns) && are_within(&clause.body)
 }
 
-// The faults' words, each at the column of its fault, among dots.
+// The faults' words, each at the column of its fault, among dots; in small letters where some ways bind the name.
 fn marks(alloc: Global, width: usize, found: &FaultList) -> Result<String, Fail> {
     let mut line = vec![in alloc; b'.'; width]?;
     for fault in found.faults() {
         let column = fault.place.column as usize;
         let words = fault.words.as_slice();
-        if fault.code != 451 || column < 1 || column > width || words.len() != 1 {
+        if column < 1 || column > width || words.len() != 1 {
             return Err("another fault".into());
         }
-        line[column - 1] = words[0];
+        line[column - 1] = match fault.code {
+            451 => words[0],
+            452 => words[0].to_ascii_lowercase(),
+            _ => return Err("another code".into()),
+        };
     }
     Ok(String::from_utf8(line).ok().ok_or("no text")?)
 }
@@ -198,15 +242,25 @@ fn faults(alloc: Global, names: &Names, clauses: Vec<Clause>) -> Result<FaultLis
     Ok(scope_faults(alloc, names, &function, &tables)?)
 }
 
-#[test]
-fn unbound_uses(rt: HostRuntime) -> Result<(), Fail> {
-    let alloc = rt.alloc();
+// The names of the function and of the letters.
+fn names(alloc: Global) -> Result<Names, Fail>
+    ensures { IfOk result (λ names. HasName names (record { index = 3 })) }
+{
     let mut names = Names::new(alloc);
     for text in ["f", "A", "X", "Y"] {
         names.intern(text)?;
     }
     let last = names.find("Y").ok_or("no name")?;
-    assert!(rt; last == LAST);
+    if last != LAST {
+        return Err("another name".into());
+    }
+    Ok(names)
+}
+
+#[test]
+fn uses_of_names(rt: HostRuntime) -> Result<(), Fail> {
+    let alloc = rt.alloc();
+    let names = names(alloc)?;
     let table = [
         // Elements and arguments do not see each other's names, and a match binds behind its expression.
         ("X>{Y,YX=};", "...Y......"),
@@ -226,6 +280,26 @@ fn unbound_uses(rt: HostRuntime) -> Result<(), Fail> {
         // Clauses do not see each other's names.
         ("X>X;Y>X;>Y;", "......X..Y."),
         ("[X,Y|>{X,Y,A};", "...........A.."),
+        // What one clause binds is unsafe behind the clauses, and what all bind is not.
+        ("X>X<{1,Y}>Y;A>A;/,Y;", "..................y."),
+        ("X>X<{Y}>Y;1>Y1=;/,Y;", "...................."),
+        (
+            "X>X<1>X<1>Y1=;_>Y1=;/;_>Y1=;/,Y;",
+            "................................",
+        ),
+        // The clauses do not see each other's names, nor does what stands beside the `case`.
+        ("X>X<1>Y1=;_>Y;/;", "............Y..."),
+        ("X>{X<1>Y1=;_>1;/,Y};", ".................Y.."),
+        // All places of an expression and of a pattern see the ways before it; behind it the name is bound.
+        ("X>X<1>Y1=;_>1;/,{Y,Y},Y;", ".................y.y...."),
+        ("X>X<1>Y1=;_>1;/,Y1=,Y;", "................y....."),
+        ("X>X<1>Y1=;_>1;/,{Y,Y}X=,Y;", ".................y.y......"),
+        (
+            "X>X<1>Y1=;_>1;/,X<1>Y;_>1;/,Y;",
+            "....................y.......y.",
+        ),
+        // All variables of a left side are bound, whatever it is.
+        ("X>X<1>Y;/1=,Y;", ".............."),
     ];
     for (text, want) in table {
         let clauses = read(alloc, text)?;

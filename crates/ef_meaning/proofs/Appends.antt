@@ -1,5 +1,5 @@
 -- What is put behind steps that are there: one lemma for each part of the lowering.
-use Rattle.std.proofs.Common.{◌≡◌, ℕ, ℤ, ◌+◌, ◌≤◌, List, [], ◌∷◌, ◌++◌, length, map, Some, sym, ap, ◌∙◌, subst, append_assoc, append-nil}
+use Rattle.std.proofs.Common.{◌≡◌, ℕ, ℤ, ◌+◌, ◌≤◌, ◌||◌, List, [], ◌∷◌, ◌++◌, length, map, Some, sym, ap, ◌∙◌, subst, append_assoc, append-nil}
 use Rattle.ef_base.specs.declared.name.Name.{Name}
 use Rattle.ef_base.specs.declared.fault.Place.{Place}
 use Rattle.ef_base.specs.Texts.{Texts}
@@ -10,21 +10,24 @@ use Rattle.ef_core.specs.Env.{held}
 use Rattle.ef_core.specs.declared.lowered.Test.{Test}
 use Rattle.ef_core.specs.LetForm.{IsSimple}
 use Rattle.ef_core.specs.Plain as plain
-use Rattle.ef_core.specs.Plain.{StepTree, lits}
+use Rattle.ef_core.specs.Plain.{StepTree, ClauseTree, lits}
 use Rattle.ef_core.specs.Tree as c
 use Rattle.ef_core.specs.Tree.{CoreTree, LitTree, PatTrees}
 use Rattle.ef_forms.specs.Tree as t
-use Rattle.ef_forms.specs.Tree.{Tree, tree, count}
+use Rattle.ef_forms.specs.Tree.{Tree, Clauses, tree, count}
 use Rattle.ef_forms.specs.Plain.{trees}
-use Rattle.ef_meaning.specs.Exception.{badmatch}
+use Rattle.ef_forms.specs.Sure.{clauses_sure}
+use Rattle.ef_meaning.specs.Exception.{badmatch, case_clause}
 use Rattle.ef_meaning.specs.Lowers.{AreBelow, KeepsBody, Appends, AppendsAll, AppendsLast, params_from, env_from, finished}
-use Rattle.ef_meaning.specs.Patterns.{IsGuard, KeepsPatterns}
-use Rattle.ef_meaning.specs.Cases.{AreHeld, FailsValue, match_case, names_of}
+use Rattle.ef_meaning.specs.Named.{bound_names, name_set}
+use Rattle.ef_meaning.specs.Patterns.{IsGuard, KeepsPatterns, KeepsPicks}
+use Rattle.ef_meaning.specs.Cases.{AreHeld, FailsValue, HoldsNames, case_step, match_case, names_of, together, variables}
 use Rattle.ef_meaning.proofs.Parts.{int_keeps, atom_keeps, var_keeps, nil_keeps, both_keep, put_keeps, drawn_keeps, one_step}
 use Rattle.ef_meaning.proofs.Calls.{call_keeps, remote_call_keeps}
-use Rattle.ef_meaning.proofs.Bodies.{last_keeps, finished_keeps}
+use Rattle.ef_meaning.proofs.Bodies.{last_keeps, finished_keeps, body_exports}
 use Rattle.ef_meaning.proofs.Terms.{tuple_keeps, list_keeps, tuple_literal_keeps, list_literal_keeps, list_to_keeps, list_to_literal_keeps}
 use Rattle.ef_meaning.proofs.Matches.{held_keeps, match_keeps}
+use Rattle.ef_meaning.proofs.CaseKeeps.{case_keeps}
 
 module _ {now : Texts} {env : List Bind} {n : ℕ} {old : List StepTree} where
   -- what needs no step
@@ -114,6 +117,20 @@ module _ {now : Texts} {n0 : ℕ} {env0 : List Bind} {old : List StepTree} {n1 :
             (match_keeps now q p e n0 env0 k.added n1 env1 x pats tests n2 binds guard always z fails n3 n4 k.keeps patterns held is none failing later enough);
       }
 
+  -- ---- `case`
+
+  -- a value that is held, and a step with the value of the case and the names that every clause binds
+  pub case_appends : {e : Tree} {x : CoreTree} {cs : Clauses} {made : List ClauseTree} (q : Place) (sure : List Name) (always : CoreTree) (z : CoreVar) (fails : CoreTree) (n3 n4 : ℕ) → AppendsAll now (e ∷ []) n0 env0 old n1 env1 mid (x ∷ []) →
+      KeepsPicks now cs env1 sure made → IsGuard now [] always → FailsValue now z case_clause fails → ((y : ℕ) → (bound_names env1 y || name_set sure y) ≡ (bound_names env1 y || clauses_sure cs y)) → n1 ≤ n3 → n3 + 1 + length sure ≤ n4 →
+      AppendsAll now (tree q (t.case_of e cs) ∷ []) n0 env0 old n4 (env1 ++ env_from (n3 + 1) sure) (mid ++ case_step n3 sure x made always z fails ∷ []) (c.var (Numbered n3) ∷ [])
+  case_appends {e} {x} {cs} {made} q sure always z fails n3 n4 k picks none failing names later enough =
+      let step : StepTree = case_step n3 sure x made always z fails in
+      record {
+        added = k.added ++ step ∷ [];
+        steps = ap (λ l. l ++ step ∷ []) k.steps ∙ append_assoc old k.added (step ∷ []);
+        keeps = case_keeps now q e cs n0 env0 k.added n1 env1 x sure made always z fails n3 n4 k.keeps picks none failing names later enough;
+      }
+
   -- variables that are drawn and not used
   pub more_drawn : {es : List Tree} {xs : List CoreTree} (m : ℕ) → n1 ≤ m → AppendsAll now es n0 env0 old n1 env1 mid xs → AppendsAll now es n0 env0 old m env1 mid xs
   more_drawn {es} {xs} m le k = record { added = k.added; steps = k.steps; keeps = drawn_keeps now es n0 env0 k.added n1 env1 xs m le k.keeps }
@@ -147,3 +164,9 @@ expression_appends below k = last_appends (nil_appends below) k
 -- the steps and the value, as one expression
 pub finish_keeps : {now : Texts} {es : List Tree} {n0 : ℕ} {env0 : List Bind} {n1 : ℕ} {env1 : List Bind} {new : List StepTree} {value : CoreTree} → AppendsLast now es n0 env0 [] n1 env1 new value → KeepsBody now es env0 [] (finished new value)
 finish_keeps {now} {es} {n0} {env0} {n1} {env1} {new} {value} k = subst (λ ss. KeepsBody now es env0 [] (finished ss value)) (sym k.steps) (finished_keeps now es n0 env0 k.added n1 env1 value k.keeps)
+
+-- the same, with the values of names
+pub export_keeps : {now : Texts} {es : List Tree} {n0 : ℕ} {env0 : List Bind} {n1 : ℕ} {env1 : List Bind} {new : List StepTree} {value : CoreTree} (sure : List Name) (ys : List CoreVar) → HoldsNames env1 sure ys → AppendsLast now es n0 env0 [] n1 env1 new value →
+    KeepsBody now es env0 sure (finished new (together (value ∷ variables ys)))
+export_keeps {now} {es} {n0} {env0} {n1} {env1} {new} {value} sure ys are k =
+    subst (λ ss. KeepsBody now es env0 sure (finished ss (together (value ∷ variables ys)))) (sym k.steps) (body_exports now es n0 env0 k.added n1 env1 value k.keeps sure ys are)

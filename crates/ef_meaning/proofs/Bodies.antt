@@ -8,6 +8,7 @@ use Rattle.ef_core.specs.declared.env.Bind.{Bind}
 use Rattle.ef_core.specs.declared.literal.CoreVar.{CoreVar}
 use Rattle.ef_core.specs.declared.literal.CoreVar.TheVariants.{Numbered}
 use Rattle.ef_core.specs.Env.{bind, held}
+use Rattle.ef_core.specs.Plain as plain
 use Rattle.ef_core.specs.Plain.{StepTree, steps}
 use Rattle.ef_core.specs.Tree.{CoreTree}
 use Rattle.ef_forms.specs.Tree.{Tree, Trees, tree, var, end, more, clause, no_clauses, no_guard}
@@ -15,12 +16,14 @@ use Rattle.ef_forms.specs.Plain.{trees}
 use Rattle.ef_forms.specs.Built.{IsAmong, IsDistinct}
 use Rattle.ef_meaning.specs.Value.{Value, values_of, with_some}
 use Rattle.ef_meaning.specs.Exception.{Error, function_clause}
-use Rattle.ef_meaning.specs.End.{Gives, Raises, and_then}
+use Rattle.ef_meaning.specs.End.{Gives, Raises, Wrong, and_then}
+use Rattle.ef_meaning.specs.Keeps.{Ahead}
 use Rattle.ef_meaning.specs.Match.{Bindings, value_of, match_name, match_values, match_all}
 use Rattle.ef_meaning.specs.Source as source
 use Rattle.ef_meaning.specs.Source.{Module, Source, by_clauses}
 use Rattle.ef_meaning.specs.Core as core
-use Rattle.ef_meaning.specs.Core.{CoreModule, Vars, Funs, Target, entry_of}
+use Rattle.ef_meaning.specs.Core.{CoreModule, Vars, Funs, Target, entry_of, value_at}
+use Rattle.ef_meaning.specs.Cases.{HoldsNames, together, variables}
 use Rattle.ef_meaning.specs.Lowers.{SameAt, Describes, AreBelow, Related, SameValue, After, KeepsAll, KeepsExpr, KeepsLast, KeepsBody, KeepsFunction, Exports, AllBound, valued, params_from, env_from, finished}
 use Rattle.ef_meaning.proofs.Ends.{begins_refl, then_same, then_then, then_gives}
 use Rattle.ef_meaning.proofs.SourceLaws as source_laws
@@ -72,6 +75,106 @@ finished_keeps now es n0 env0 added n1 env1 value k = record {
       (λ a u. begins_refl u.outside.events)
       (k.keeps b c desc w cw world all inc n calls en fs s t hides same)
       (λ a r u z after q. gives_keeps (Exports []) (Related cw all en) n a r.0 u z (record { names = []; is = after.value; bound = tt }) q));
+}
+
+-- ---- a value, and those of names
+
+-- what the variables hold, where each is set
+abbrev values_at : List CoreVar → Vars → Option (List Value)
+values_at [] d = Some []
+values_at (y ∷ ys) d = with_some (value_at y d) (λ v. with_some (values_at ys d) (λ vs. Some (v ∷ vs)))
+
+abbrev given_all : Option (List Value) → Target → core.Answer
+given_all None s = Wrong
+given_all (Some vs) s = Gives vs s
+
+-- one value, and then these
+abbrev given_beside : List Value → Option (List Value) → Target → core.Answer
+given_beside (u ∷ []) None s = Wrong
+given_beside (u ∷ []) (Some vs) s = Gives (u ∷ vs) s
+given_beside [] o s = Wrong
+given_beside (u ∷ v ∷ us) o s = Wrong
+
+beside_ahead : (us : List Value) (o : Option (List Value)) (s : Target) → Ahead s.outside.events (given_beside us o s)
+beside_ahead (u ∷ []) None s = tt
+beside_ahead (u ∷ []) (Some vs) s = begins_refl s.outside.events
+beside_ahead [] o s = tt
+beside_ahead (u ∷ v ∷ us) o s = tt
+
+module _ (w : CoreModule) (ls : core.Levels) (d : Vars) (fs : Funs) where
+  variables_eval : (ys : List CoreVar) (s : Target) → core.eval_all w (plain.trees (variables ys)) ls d fs s ≡ given_all (values_at ys d) s
+  variables_eval [] s = refl
+  variables_eval (y ∷ ys) s = by (value_at y d) (values_at ys d) (λ t. variables_eval ys t)
+    where
+      by : (o : Option Value) (p : Option (List Value)) → ((t : Target) → core.eval_all w (plain.trees (variables ys)) ls d fs t ≡ given_all p t) →
+          and_then (and_then (core.held_value o s) core.single) (λ v t. and_then (core.eval_all w (plain.trees (variables ys)) ls d fs t) (λ vs u. Gives (v ∷ vs) u)) ≡ given_all (with_some o (λ v. with_some p (λ vs. Some (v ∷ vs)))) s
+      by None p rest = refl
+      by (Some v) None rest = ap (λ z. and_then z (λ vs u. Gives (v ∷ vs) u)) (rest s)
+      by (Some v) (Some vs) rest = ap (λ z. and_then z (λ vs u. Gives (v ∷ vs) u)) (rest s)
+
+  beside_eval : (ys : List CoreVar) (us : List Value) (s : Target) → and_then (core.single us s) (λ v t. and_then (core.eval_all w (plain.trees (variables ys)) ls d fs t) (λ vs u. Gives (v ∷ vs) u)) ≡ given_beside us (values_at ys d) s
+  beside_eval ys [] s = refl
+  beside_eval ys (u ∷ []) s = ap (λ z. and_then z (λ vs t. Gives (u ∷ vs) t)) (variables_eval ys s) ∙ by (values_at ys d)
+    where
+      by : (p : Option (List Value)) → and_then (given_all p s) (λ vs t. Gives (u ∷ vs) t) ≡ given_beside (u ∷ []) p s
+      by None = refl
+      by (Some vs) = refl
+  beside_eval ys (u ∷ v ∷ us) s = refl
+
+-- steps and then an expression
+steps_eval : (w : CoreModule) (ss : List StepTree) (e : CoreTree) (ls : core.Levels) (c : Vars) (fs : Funs) (t : Target) → core.eval w (finished ss e) ls c fs t ≡ and_then (core.eval_steps w (steps ss) ls c fs t) (λ d u. core.eval w e ls d fs u)
+steps_eval w [] e ls c fs t = refl
+steps_eval w (s ∷ ss) e ls c fs t = refl
+
+-- steps, then a value and those of variables
+exported_eval : (w : CoreModule) (ss : List StepTree) (value : CoreTree) (y : CoreVar) (ys : List CoreVar) (ls : core.Levels) (c : Vars) (fs : Funs) (t : Target) →
+    core.eval w (finished ss (together (value ∷ variables (y ∷ ys)))) ls c fs t ≡ and_then (valued w ss value ls c fs t) (λ r u. given_beside r.0 (values_at (y ∷ ys) r.1) u)
+exported_eval w ss value y ys ls c fs t =
+    steps_eval w ss (together (value ∷ variables (y ∷ ys))) ls c fs t
+    ∙ then_same (core.eval_steps w (steps ss) ls c fs t) _ _ (λ d u.
+    then_then (core.eval w value ls d fs u) _ _
+    ∙ then_same (core.eval w value ls d fs u) _ _ (λ us x. beside_eval w ls d fs (y ∷ ys) us x)
+    ∙ sym (then_then (core.eval w value ls d fs u) _ _))
+    ∙ sym (then_then (core.eval_steps w (steps ss) ls c fs t) _ _)
+
+-- the variables of names have their values
+named_values : (env : List Bind) (b : Bindings) (d : Vars) → Describes env b d → (xs : List Name) (ys : List CoreVar) → HoldsNames env xs ys → (vs : List Value) × (values_at ys d ≡ Some vs) × AllBound xs b vs
+named_values env b d desc [] [] are = ([], refl, tt)
+named_values env b d desc [] (y ∷ ys) are = absurd are
+named_values env b d desc (x ∷ xs) [] are = absurd are
+named_values env b d desc (x ∷ xs) (y ∷ ys) are =
+    let rest = named_values env b d desc xs ys are.1 in
+    let first = by (value_of x b) refl (subst (λ o. SameAt o (value_of x b) d) are.0 (desc.each x)) in
+    (first.0 ∷ rest.0, ap (λ o. with_some o (λ v. with_some (values_at ys d) (λ vs. Some (v ∷ vs)))) first.2 ∙ ap (λ o. with_some o (λ vs. Some (first.0 ∷ vs))) rest.1, (first.1, rest.2))
+  where
+    by : (o : Option Value) → value_of x b ≡ o → SameAt (Some y) o d → (v : Value) × (value_of x b ≡ Some v) × (value_at y d ≡ Some v)
+    by None is p = absurd p
+    by (Some v) is p = (v, is, p)
+
+-- a body gives the values of any names that are held behind it, in their order
+pub body_exports : (now : Texts) (es : List Tree) (n0 : ℕ) (env0 : List Bind) (added : List StepTree) (n1 : ℕ) (env1 : List Bind) (value : CoreTree) → KeepsLast now es n0 env0 added n1 env1 value →
+    (sure : List Name) (ys : List CoreVar) → HoldsNames env1 sure ys → KeepsBody now es env0 sure (finished added (together (value ∷ variables ys)))
+body_exports now es n0 env0 added n1 env1 value k [] [] are = finished_keeps now es n0 env0 added n1 env1 value k
+body_exports now es n0 env0 added n1 env1 value k [] (y ∷ ys) are = absurd are
+body_exports now es n0 env0 added n1 env1 value k (x ∷ xs) [] are = absurd are
+body_exports now es n0 env0 added n1 env1 value k (x ∷ xs) (y ∷ ys) are = record {
+  made = k.made;
+  bodies = k.bodies;
+  keeps = λ b c desc w cw world all inc n calls en fs s t hides same.
+      let R = Exports (x ∷ xs) in
+      keeps_same R (Related cw all en) n _ (and_then (source.eval_body w (trees es) (source.levels w n) b s) (λ a u. Gives a u)) _ (λ m. and_then (valued cw added value (core.levels cw m) c fs t) (λ r u. given_beside r.0 (values_at (y ∷ ys) r.1) u))
+      (sym (then_gives (source.eval_body w (trees es) (source.levels w n) b s)))
+      (λ i m. exported_eval cw added value y ys (core.levels cw m) c fs t i)
+      (then_keeps (After n0 c env1) R (Related cw all en) n (source.eval_body w (trees es) (source.levels w n) b s) (λ m. valued cw added value (core.levels cw m) c fs t) (λ a u. Gives a u) (λ m r u. given_beside r.0 (values_at (y ∷ ys) r.1) u)
+      (valued_steady cw added value c fs t).extends
+      (λ r u. const_steady u (given_beside r.0 (values_at (y ∷ ys) r.1) u) (beside_ahead r.0 (values_at (y ∷ ys) r.1) u))
+      (λ a u. begins_refl u.outside.events)
+      (k.keeps b c desc w cw world all inc n calls en fs s t hides same)
+      (λ a r u z after q.
+      let values = named_values env1 a.1 r.1 after.names (x ∷ xs) (y ∷ ys) are in
+      keeps_same R (Related cw all en) n _ (Gives a u) _ (λ m. Gives (a.0 ∷ values.0) z) refl
+      (λ i m. (ap (λ us. given_beside us (values_at (y ∷ ys) r.1) z) after.value ∙ ap (λ o. given_beside (a.0 ∷ []) o z) values.1) i)
+      (gives_keeps R (Related cw all en) n a (a.0 ∷ values.0) u z (record { names = values.0; is = refl; bound = values.2 }) q)));
 }
 
 -- ---- parameters

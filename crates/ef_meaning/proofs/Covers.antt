@@ -1,13 +1,15 @@
 -- Names that are bound: what a match binds, and what stays bound.
-use Rattle.std.proofs.Common.{◌≡◌, ℕ, ◌||◌, ◌==◌, Bool, true, false, if◌then◌else◌, ◌∷◌, Option, Some, None, refl, ap, subst, arith}
+use Rattle.std.proofs.Common.{◌≡◌, ℕ, ◌||◌, ◌&&◌, ◌==◌, Bool, true, false, if◌then◌else◌, [], ◌∷◌, ◌++◌, Option, Some, None, refl, sym, ap, ◌∙◌, subst, cond, arith}
+use Rattle.std.specs.Prelude.{filter}
 use Rattle.std.proofs.lemmas.Bool.Decides.{nat_tests}
 use Rattle.ef_base.specs.declared.name.Name.{Name}
 use Rattle.ef_base.specs.Texts.{Texts, text}
-use Rattle.ef_forms.specs.Tree.{Tree, Shape, Trees, tree, int, atom, var, any, list, list_to, tuple, matching, call, remote, end, more}
-use Rattle.ef_forms.specs.Ways.{NameSet, no_names, one_name, union, names, shape_names, all_names}
+use Rattle.ef_forms.specs.Tree.{Tree, Shape, Trees, tree, int, atom, var, any, list, list_to, tuple, matching, call, remote, case_of, end, more}
+use Rattle.ef_forms.specs.Ways.{NameSet, no_names, one_name, union, common, names, shape_names, all_names}
 use Rattle.ef_meaning.specs.Value.{Value, Values, Integer, Atom, Nil, none, some, head_and_tail, elements, with_some}
 use Rattle.ef_meaning.specs.Same.{same_value}
 use Rattle.ef_meaning.specs.Match.{Bindings, value_of, compared, match_name, matches, matches_shape, match_items, match_values}
+use Rattle.ef_meaning.specs.Source.{kept}
 
 abbrev pub IsBoundTo : Name → Bindings → Type 0
 IsBoundTo n b = (v : Value) × (value_of n b ≡ Some v)
@@ -53,6 +55,65 @@ still s b t c p q n e = q.stays n (p n e)
 
 pub covers_union : (s t : NameSet) (b c : Bindings) → Covers s b → Follows b t c → Covers (union s t) c
 covers_union s t b c p q n e = or_elim (s n.index) (t n.index) e (λ h. q.stays n (p n h)) (λ h. q.covers n h)
+
+-- fewer names
+pub common_left : (b c : Bindings) (s t : NameSet) → Follows b s c → Follows b (common s t) c
+common_left b c s t p = record { stays = p.stays; covers = λ n h. p.covers n (by (s n.index) (t n.index) h) }
+  where
+    by : (x y : Bool) → (x && y) ≡ true → x ≡ true
+    by true y h = refl
+    by false y h = absurd cc
+
+pub common_right : (b c : Bindings) (s t : NameSet) → Follows b t c → Follows b (common s t) c
+common_right b c s t p = record { stays = p.stays; covers = λ n h. p.covers n (by (s n.index) (t n.index) h) }
+  where
+    by : (x y : Bool) → (x && y) ≡ true → y ≡ true
+    by true y h = h
+    by false y h = absurd cc
+
+-- ---- bindings that are kept
+
+pub value_front : (b c : Bindings) (x : Name) (v : Value) → value_of x b ≡ Some v → value_of x (b ++ c) ≡ Some v
+value_front [] c x v e = absurd cc
+value_front (p ∷ b) c x v e = by (p.0.index == x.index) (λ h. value_front b c x v h) e
+  where
+    by : (t : Bool) → (value_of x b ≡ Some v → value_of x (b ++ c) ≡ Some v) → (if t then Some p.1 else value_of x b) ≡ Some v → (if t then Some p.1 else value_of x (b ++ c)) ≡ Some v
+    by true k h = h
+    by false k h = k h
+
+pub value_behind : (b c : Bindings) (x : Name) → value_of x b ≡ None → value_of x (b ++ c) ≡ value_of x c
+value_behind [] c x e = refl
+value_behind (p ∷ b) c x e = by (p.0.index == x.index) (λ h. value_behind b c x h) e
+  where
+    by : (t : Bool) → (value_of x b ≡ None → value_of x (b ++ c) ≡ value_of x c) → (if t then Some p.1 else value_of x b) ≡ None → (if t then Some p.1 else value_of x (b ++ c)) ≡ value_of x c
+    by true k h = absurd cc
+    by false k h = k h
+
+-- of a set
+pub value_filter : (set : NameSet) (b : Bindings) (x : Name) → value_of x (filter (λ p. set p.0.index) b) ≡ (if set x.index then value_of x b else None)
+value_filter set [] x = by (set x.index)
+  where
+    by : (t : Bool) → ◌≡◌ {A = Option Value} None (if t then None else None)
+    by true = refl
+    by false = refl
+value_filter set (p ∷ b) x = by (p.0.index == x.index) refl (set p.0.index) refl (value_filter set b x)
+  where
+    by : (t : Bool) → (p.0.index == x.index) ≡ t → (u : Bool) → set p.0.index ≡ u → value_of x (filter (λ q. set q.0.index) b) ≡ (if set x.index then value_of x b else None) →
+        value_of x (cond u (p ∷ filter (λ q. set q.0.index) b) (filter (λ q. set q.0.index) b)) ≡ (if set x.index then (if t then Some p.1 else value_of x b) else None)
+    by true e true is rest = ap (λ t. if t then Some p.1 else value_of x (filter (λ q. set q.0.index) b)) e ∙ sym (ap (λ t. if t then Some p.1 else None) (ap (λ (n : Name). set n.index) (sym (same_name p.0 x e)) ∙ is))
+    by true e false is rest =
+        let out : set x.index ≡ false = ap (λ (n : Name). set n.index) (sym (same_name p.0 x e)) ∙ is in
+        rest ∙ ap (λ t. if t then value_of x b else None) out ∙ sym (ap (λ t. if t then Some p.1 else None) out)
+    by false e true is rest = ap (λ t. if t then Some p.1 else value_of x (filter (λ q. set q.0.index) b)) e ∙ rest
+    by false e false is rest = rest
+
+-- names of a set that are bound inside are bound where they are kept
+pub kept_follows : (set : NameSet) (b c : Bindings) → Follows b set c → Follows b set (kept set c b)
+kept_follows set b c p = record { stays = λ n q. (q.0, value_front b (filter (λ x. set x.0.index) c) n q.0 q.1); covers = λ n is. by n is (p.covers n is) (value_of n b) refl }
+  where
+    by : (n : Name) → set n.index ≡ true → IsBoundTo n c → (o : Option Value) → value_of n b ≡ o → IsBoundTo n (kept set c b)
+    by n is q (Some v) e = (v, value_front b (filter (λ x. set x.0.index) c) n v e)
+    by n is q None e = (q.0, value_behind b (filter (λ x. set x.0.index) c) n e ∙ value_filter set c n ∙ ap (λ t. if t then value_of n c else None) is ∙ q.1)
 
 -- ---- what a match binds
 
@@ -108,6 +169,7 @@ module _ (all : Texts) where
     shape_follows (matching p e) v b c is = absurd cc
     shape_follows (call f es) v b c is = absurd cc
     shape_follows (remote m f es) v b c is = absurd cc
+    shape_follows (case_of e cs) v b c is = absurd cc
 
     items_follow : (ps : Trees) (v : Value) (b : Bindings) (r : Value × Bindings) → match_items all ps v b ≡ Some r → Follows b (all_names ps) r.1
     items_follow end v b r is = subst (λ (z : Value × Bindings). Follows b no_names z.1) (let same : (v, b) ≡ r = cc in same) (nothing b)

@@ -1,5 +1,5 @@
 -- The Core of the examples keeps the meaning of their source: by the lemmas of the lowering.
-use Rattle.std.proofs.Common.{◌≡◌, ◌≢◌, codes, ℕ, ◌==◌, true, List, [], ◌∷◌, ⊎_elim, inl, inr, refl, sym, ap, arith}
+use Rattle.std.proofs.Common.{◌≡◌, ◌≢◌, ◌≤◌, codes, ℕ, ◌==◌, true, List, [], ◌∷◌, ⊎_elim, inl, inr, refl, sym, ap, arith}
 use Rattle.std.proofs.lemmas.Bool.Decides.{nat_tests}
 use Rattle.ef_base.specs.declared.name.Name.{Name}
 use Rattle.ef_base.specs.Texts.{text}
@@ -8,7 +8,7 @@ use Rattle.ef_core.specs.declared.literal.CoreVar.TheVariants.{Numbered}
 use Rattle.ef_core.specs.Tree.{CoreTree, DefTree, lets}
 use Rattle.ef_forms.specs.declared.tables.FunctionName.{FunctionName}
 use Rattle.ef_core.specs.Plain.{steps}
-use Rattle.ef_forms.specs.Tree.{Tree, ModuleTree, end}
+use Rattle.ef_forms.specs.Tree.{Tree, ModuleTree, end, count}
 use Rattle.ef_forms.specs.Plain.{trees}
 use Rattle.ef_forms.specs.Built.{AreBuilt, IsAmong, IsBuilt, IsBuiltFunction, IsModuleInfo, functions_in}
 use Rattle.ef_meaning.specs.Bound.{IsBoundModule}
@@ -17,10 +17,12 @@ use Rattle.ef_meaning.specs.Rows.{CoreKeeps}
 use Rattle.ef_meaning.specs.Examples as e
 use Rattle.ef_meaning.specs.Examples.{table, two_calls, two_calls_defs, core_two_calls, dropped_value, dropped_value_defs, core_dropped_value, ordered, ordered_defs, core_ordered}
 use Rattle.ef_meaning.specs.Matching.{named_value, named_value_defs, core_named_value}
+use Rattle.ef_meaning.specs.Branching.{tagged_value, tagged_value_defs, core_tagged_value}
 use Rattle.ef_meaning.proofs.Appends.{atom_appends, var_appends, nil_appends, call_appends, remote_appends, argument_appends, put_appends, both_append, last_appends, expression_appends, finish_keeps}
 use Rattle.ef_meaning.proofs.Bodies.{function_keeps}
 use Rattle.ef_meaning.proofs.Kept.{module_keeps}
 use Rattle.ef_meaning.proofs.NamedValue.{named_definition}
+use Rattle.ef_meaning.proofs.TaggedValue.{tagged_definition}
 
 alone : {A : Type 0} (x : A) → IsAmong x [] → ⊥
 alone x h = h
@@ -96,11 +98,11 @@ abbrev k_key : ℕ → FunctionName
 k_key n = record { name = e.k_name; arity = n }
 
 -- functions of one parameter, and of none
-one_built : (defs : List FunctionName) (n x : Name) (es : List Tree) → text table n ≢ codes "module_info" → AreBuilt table defs (trees es) → IsBuiltFunction table defs (e.function n 1 (x ∷ []) es)
-one_built defs n x es differ built = (no_info (record { name = n; arity = 1 }) differ, (refl, (tt, tt), built, tt))
+one_built : (defs : List FunctionName) (n x : Name) (es : List Tree) → text table n ≢ codes "module_info" → 1 ≤ count (trees es) → AreBuilt table defs (trees es) → IsBuiltFunction table defs (e.function n 1 (x ∷ []) es)
+one_built defs n x es differ full built = (no_info (record { name = n; arity = 1 }) differ, (refl, (tt, tt), full, built, tt))
 
-none_built : (defs : List FunctionName) (n : Name) (es : List Tree) → text table n ≢ codes "module_info" → AreBuilt table defs (trees es) → IsBuiltFunction table defs (e.function n 0 [] es)
-none_built defs n es differ built = (no_info (record { name = n; arity = 0 }) differ, (refl, tt, built, tt))
+none_built : (defs : List FunctionName) (n : Name) (es : List Tree) → text table n ≢ codes "module_info" → 1 ≤ count (trees es) → AreBuilt table defs (trees es) → IsBuiltFunction table defs (e.function n 0 [] es)
+none_built defs n es differ full built = (no_info (record { name = n; arity = 0 }) differ, (refl, tt, full, built, tt))
 
 two_built : IsBuilt table two_calls
 two_built = record {
@@ -108,24 +110,24 @@ two_built = record {
   exports = (alone f_key, tt);
   exported = (inl (inl refl), tt);
   bodies = (
-    one_built (f_key ∷ k_key 1 ∷ []) e.f_name e.x_name (e.call e.k_name (e.remote e.g_name e.h_name (e.var e.x_name ∷ []) ∷ []) ∷ []) (λ p. absurd cc) ((inl (inr (inl refl)), (((λ p. absurd cc), tt, (tt, tt)), tt)), tt),
-    (one_built (f_key ∷ k_key 1 ∷ []) e.k_name e.y_name (e.remote e.g_name e.i_name (e.var e.y_name ∷ e.atom e.a_name ∷ []) ∷ []) (λ p. absurd cc) (((λ p. absurd cc), tt, (tt, (tt, tt))), tt), tt),
+    one_built (f_key ∷ k_key 1 ∷ []) e.f_name e.x_name (e.call e.k_name (e.remote e.g_name e.h_name (e.var e.x_name ∷ []) ∷ []) ∷ []) (λ p. absurd cc) (omega arith) ((inl (inr (inl refl)), (((λ p. absurd cc), tt, (tt, tt)), tt)), tt),
+    (one_built (f_key ∷ k_key 1 ∷ []) e.k_name e.y_name (e.remote e.g_name e.i_name (e.var e.y_name ∷ e.atom e.a_name ∷ []) ∷ []) (λ p. absurd cc) (omega arith) (((λ p. absurd cc), tt, (tt, (tt, tt))), tt), tt),
   );
 }
 
 two_bound : IsBoundModule table two_calls
-two_bound = (((omega arith, tt), refl), (((omega arith, tt), refl), tt))
+two_bound = (refl, (refl, tt))
 
 dropped_built : IsBuilt table dropped_value
 dropped_built = record {
   functions = (alone f_key, tt);
   exports = (alone f_key, tt);
   exported = (inl (inl refl), tt);
-  bodies = (one_built (f_key ∷ []) e.f_name e.x_name (e.remote e.g_name e.h_name (e.var e.x_name ∷ []) ∷ e.var e.x_name ∷ []) (λ p. absurd cc) (((λ p. absurd cc), tt, (tt, tt)), (tt, tt)), tt);
+  bodies = (one_built (f_key ∷ []) e.f_name e.x_name (e.remote e.g_name e.h_name (e.var e.x_name ∷ []) ∷ e.var e.x_name ∷ []) (λ p. absurd cc) (omega arith) (((λ p. absurd cc), tt, (tt, tt)), (tt, tt)), tt);
 }
 
 dropped_bound : IsBoundModule table dropped_value
-dropped_bound = (((omega arith, tt), refl), tt)
+dropped_bound = (refl, tt)
 
 ordered_built : IsBuilt table ordered
 ordered_built = record {
@@ -133,25 +135,48 @@ ordered_built = record {
   exports = (alone f_key, tt);
   exported = (inl (inl refl), tt);
   bodies = (
-    one_built (f_key ∷ k_key 0 ∷ []) e.f_name e.x_name (e.remote e.g_name e.h_name (e.var e.x_name ∷ e.remote e.i_name e.j_name [] ∷ e.call e.k_name [] ∷ []) ∷ []) (λ p. absurd cc)
+    one_built (f_key ∷ k_key 0 ∷ []) e.f_name e.x_name (e.remote e.g_name e.h_name (e.var e.x_name ∷ e.remote e.i_name e.j_name [] ∷ e.call e.k_name [] ∷ []) ∷ []) (λ p. absurd cc) (omega arith)
         (((λ p. absurd cc), tt, (tt, (((λ p. absurd cc), tt, tt), ((inl (inr (inl refl)), tt), tt)))), tt),
-    (none_built (f_key ∷ k_key 0 ∷ []) e.k_name (e.remote e.l_name e.m_name [] ∷ []) (λ p. absurd cc) (((λ p. absurd cc), tt, tt), tt), tt),
+    (none_built (f_key ∷ k_key 0 ∷ []) e.k_name (e.remote e.l_name e.m_name [] ∷ []) (λ p. absurd cc) (omega arith) (((λ p. absurd cc), tt, tt), tt), tt),
   );
 }
 
 ordered_bound : IsBoundModule table ordered
-ordered_bound = (((omega arith, tt), refl), (((omega arith, tt), refl), tt))
+ordered_bound = (refl, (refl, tt))
 
 named_built : IsBuilt table named_value
 named_built = record {
   functions = (alone f_key, tt);
   exports = (alone f_key, tt);
   exported = (inl (inl refl), tt);
-  bodies = ((no_info f_key (λ p. absurd cc), (refl, (tt, tt), ((tt, ((λ p. absurd cc), tt, (tt, tt))), ((tt, (tt, tt)), tt)), tt)), tt);
+  bodies = ((no_info f_key (λ p. absurd cc), (refl, (tt, tt), omega arith, ((tt, ((λ p. absurd cc), tt, (tt, tt))), ((tt, (tt, tt)), tt)), tt)), tt);
 }
 
 named_bound : IsBoundModule table named_value
-named_bound = (((omega arith, tt), refl), tt)
+named_bound = (refl, tt)
+
+tagged_built : IsBuilt table tagged_value
+tagged_built = record {
+  functions = (alone f_key, tt);
+  exports = (alone f_key, tt);
+  exported = (inl (inl refl), tt);
+  bodies = (
+    (
+      no_info f_key (λ p. absurd cc),
+      (
+        refl,
+        (tt, tt),
+        omega arith,
+        ((tt, tt, (refl, ((tt, (tt, tt)), tt), omega arith, (tt, tt), (refl, ((tt, (tt, tt)), tt), omega arith, (tt, tt), tt))), (tt, tt)),
+        tt,
+      ),
+    ),
+    tt,
+  );
+}
+
+tagged_bound : IsBoundModule table tagged_value
+tagged_bound = (refl, tt)
 
 pub core_keeps : CoreKeeps
 core_keeps =
@@ -162,5 +187,6 @@ core_keeps =
       answered = module_keeps table two_calls core_two_calls (whole two_calls two_calls_defs refl two) two_built two_bound;
       dropped = module_keeps table dropped_value core_dropped_value (whole dropped_value dropped_value_defs refl drop) dropped_built dropped_bound;
       named = module_keeps table named_value core_named_value (whole named_value named_value_defs refl (named_definition, tt)) named_built named_bound;
+      tagged = module_keeps table tagged_value core_tagged_value (whole tagged_value tagged_value_defs refl (tagged_definition, tt)) tagged_built tagged_bound;
       left_to_right = module_keeps table ordered core_ordered (whole ordered ordered_defs refl order) ordered_built ordered_bound;
     }

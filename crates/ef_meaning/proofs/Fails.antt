@@ -10,7 +10,7 @@ use Rattle.ef_core.specs.Plain.{lits, steps, trees}
 use Rattle.ef_core.specs.Tree as to
 use Rattle.ef_core.specs.Tree.{CoreTree}
 use Rattle.ef_meaning.specs.Value.{Value, Values, Atom, Tuple, some, none, values_of, pair_value}
-use Rattle.ef_meaning.specs.Exception.{Error, function_clause, badmatch}
+use Rattle.ef_meaning.specs.Exception.{Error, function_clause, badmatch, case_clause}
 use Rattle.ef_meaning.specs.End.{Gives, Raises, and_then}
 use Rattle.ef_meaning.specs.Core as core
 use Rattle.ef_meaning.specs.Core.{CoreModule, Vars, Funs, Target, same_var, value_at}
@@ -129,3 +129,10 @@ module _ (now : Texts) (f why : Name) (z : CoreVar) (is_fail : IsNameOf now f (c
 
   pub badmatch_step_fails : (y : CoreVar) → FailsValue now z badmatch (to.lets (steps (one_step y (value_reason why z))) (to.primop f (trees (to.var y ∷ []))))
   badmatch_step_fails y = value_step_fails now f why z (codes "badmatch") is_fail is_why refl y
+
+module _ (now : Texts) (f why : Name) (z : CoreVar) (is_fail : IsNameOf now f (codes "match_fail")) (is_why : IsNameOf now why (codes "case_clause")) where
+  pub case_clause_fails : FailsValue now z case_clause (to.primop f (trees (value_reason why z ∷ [])))
+  case_clause_fails = value_fails now f why z (codes "case_clause") is_fail is_why refl
+
+  pub case_clause_step_fails : (y : CoreVar) → FailsValue now z case_clause (to.lets (steps (one_step y (value_reason why z))) (to.primop f (trees (to.var y ∷ []))))
+  case_clause_step_fails y = value_step_fails now f why z (codes "case_clause") is_fail is_why refl y

@@ -3,10 +3,11 @@ use Rattle.std.proofs.Common.{◌≡◌, ◌≢◌, ℕ, zero, suc, ◌≤◌, �
 use Rattle.std.specs.Prelude.{slice_get}
 use Rattle.ef_base.specs.declared.name.Name.{Name}
 use Rattle.ef_base.specs.Texts.{text}
-use Rattle.ef_forms.specs.Tree.{Tree, Shape, Trees, Clauses, tree, int, atom, var, any, list, list_to, tuple, matching, call, remote, end, more, no_guard, or_guard, no_clauses, clause, count}
-use Rattle.ef_forms.specs.Ways.{NameSet, no_names, union, names, shape_names, all_names}
+use Rattle.ef_forms.specs.Tree.{Tree, Shape, Trees, Clauses, tree, int, atom, var, any, list, list_to, tuple, matching, call, remote, case_of, end, more, no_guard, or_guard, no_clauses, clause, count}
+use Rattle.ef_forms.specs.Ways.{NameSet, no_names, union, common, names, all_names}
+use Rattle.ef_forms.specs.Sure.{sure, shape_sure, all_sure, clauses_sure}
 use Rattle.ef_meaning.specs.Value.{Value, Atom, Local, External, Made, some, values_of}
-use Rattle.ef_meaning.specs.Exception.{Class, Error, function_clause}
+use Rattle.ef_meaning.specs.Exception.{Class, Error, function_clause, case_clause}
 use Rattle.ef_meaning.specs.Lookup.{FunctionKey, find, keys, nth}
 use Rattle.ef_meaning.specs.Proper.{Known, is_proper, are_proper, has_function, is_the_arity}
 use Rattle.ef_meaning.specs.Outside.{Item, Answer, Raise, Arrive, TimeUp, CallBack, Returned, Excepted, Called, GaveBack, with_items, arrived, shows}
@@ -16,9 +17,10 @@ use Rattle.ef_meaning.specs.Called.{Apply, is_applicable, fits, takes, taken, ou
 use Rattle.ef_meaning.specs.Pure.{pure}
 use Rattle.ef_meaning.specs.Match.{Bindings, value_of, match_all}
 use Rattle.ef_meaning.specs.Match as source_match
+use Rattle.ef_meaning.specs.Source as source
 use Rattle.ef_meaning.specs.Source.{Function, Body, by_clauses, information, Source, Levels, Module, applied, of_arity, arities, side, beside, eval, eval_shape, eval_all, eval_body, pick, run_body, levels, target, named, matched, chosen}
 use Rattle.ef_meaning.proofs.CalledLaws.{back}
-use Rattle.ef_meaning.proofs.Covers.{IsBoundTo, Covers, Follows, nothing, follows_refl, follows_trans, swap, still, covers_union, tree_follows, all_follows}
+use Rattle.ef_meaning.proofs.Covers.{IsBoundTo, Covers, Follows, nothing, follows_refl, follows_trans, still, covers_union, common_left, common_right, kept_follows, tree_follows, all_follows}
 
 -- ---- what is safe
 
@@ -26,40 +28,41 @@ abbrev pub IsFound : Module → List ℕ → ℕ → Type 0
 IsFound w f a = (g : Function) × (find f a w.functions ≡ Some g)
 
 -- under these names
-module _ (w : Module) (s : NameSet) where
+module _ (w : Module) where
   abbrev mutual
-    pub IsSafe : Tree → Type 0
-    IsSafe (tree p e) = IsSafeShape e
+    pub IsSafe : NameSet → Tree → Type 0
+    IsSafe s (tree p e) = IsSafeShape s e
 
-    pub IsSafeShape : Shape → Type 0
-    IsSafeShape (int i) = Unit {0}
-    IsSafeShape (atom n) = Unit {0}
-    IsSafeShape (var n) = s n.index ≡ true
-    IsSafeShape any = ⊥
-    IsSafeShape (list es) = AreSafe es
-    IsSafeShape (list_to es e) = AreSafe es × IsSafe e
-    IsSafeShape (tuple es) = AreSafe es
-    IsSafeShape (matching p e) = IsSafe e
-    IsSafeShape (call f es) = IsSafeTarget f (count es) × AreSafe es
-    IsSafeShape (remote m f es) = IsSafe m × IsSafe f × AreSafe es
+    pub IsSafeShape : NameSet → Shape → Type 0
+    IsSafeShape s (int i) = Unit {0}
+    IsSafeShape s (atom n) = Unit {0}
+    IsSafeShape s (var n) = s n.index ≡ true
+    IsSafeShape s any = ⊥
+    IsSafeShape s (list es) = AreSafe s es
+    IsSafeShape s (list_to es e) = AreSafe s es × IsSafe s e
+    IsSafeShape s (tuple es) = AreSafe s es
+    IsSafeShape s (matching p e) = IsSafe s e
+    IsSafeShape s (call f es) = IsSafeTarget f (count es) × AreSafe s es
+    IsSafeShape s (remote m f es) = IsSafe s m × IsSafe s f × AreSafe s es
+    IsSafeShape s (case_of e cs) = IsSafe s e × AreSafeClauses (union s (sure e)) cs
 
     -- only functions of the module are called
     pub IsSafeTarget : Tree → ℕ → Type 0
     IsSafeTarget (tree p (atom n)) a = IsFound w (text w.texts n) a
     IsSafeTarget _ a = ⊥
 
-    pub AreSafe : Trees → Type 0
-    AreSafe end = Unit {0}
-    AreSafe (more e es) = IsSafe e × AreSafe es
+    pub AreSafe : NameSet → Trees → Type 0
+    AreSafe s end = Unit {0}
+    AreSafe s (more e es) = IsSafe s e × AreSafe s es
 
--- each expression of a body, under the names of those before it too
-abbrev pub AreSafeInTurn : Module → NameSet → Trees → Type 0
-AreSafeInTurn w s end = Unit {0}
-AreSafeInTurn w s (more e es) = IsSafe w s e × AreSafeInTurn w (union s (names e)) es
+    -- each expression of a body, under the names of those before it too
+    pub AreSafeInTurn : NameSet → Trees → Type 0
+    AreSafeInTurn s end = Unit {0}
+    AreSafeInTurn s (more e es) = IsSafe s e × AreSafeInTurn (union s (sure e)) es
 
-abbrev pub AreSafeClauses : Module → NameSet → Clauses → Type 0
-AreSafeClauses w s no_clauses = Unit {0}
-AreSafeClauses w s (clause p ps g body cs) = (g ≡ no_guard) × (1 ≤ count body) × AreSafeInTurn w (union s (all_names ps)) body × AreSafeClauses w s cs
+    pub AreSafeClauses : NameSet → Clauses → Type 0
+    AreSafeClauses s no_clauses = Unit {0}
+    AreSafeClauses s (clause p ps g body cs) = (g ≡ no_guard) × (1 ≤ count body) × AreSafeInTurn (union s (all_names ps)) body × AreSafeClauses s cs
 
 -- under names that are bound in what it saves
 abbrev pub IsSafeBody : Module → Body → Type 0
@@ -236,62 +239,82 @@ module _ (w : Module) where
     matched_fine p None v b s all is = all
     matched_fine p (Some c) v b s all is = (tree_follows w.texts p v b c is, all)
 
-    module _ (σ : NameSet) where
-      mutual
-        eval_fine : (e : Tree) (ls : Levels) (b : Bindings) (s : Source) → LevelsFine w ls → AreSafeFunctions w s.store → Covers σ b → IsSafe w σ e → Fine w (Binds b (names e)) (eval w e ls b s)
-        eval_fine (tree p e) ls b s fine all covers is = shape_fine e ls b s fine all covers is
+    -- the body of a clause that matches, or what is done where it does not
+    chosen_fine : (ps : Trees) (set : NameSet) (o : Option Bindings) (vs : List Value) (b : Bindings) (body : Bindings → source.Answer) (others : source.Answer) → match_all w.texts ps vs b ≡ o →
+        ((c : Bindings) → match_all w.texts ps vs b ≡ Some c → Fine w (Binds c set) (body c)) → Fine w (Binds b (union (all_names ps) set)) others → Fine w (Binds b (union (all_names ps) set)) (chosen o body others)
+    chosen_fine ps set None vs b body others e k l = l
+    chosen_fine ps set (Some c) vs b body others e k l = weaken_fine w (Binds c set) (Binds b (union (all_names ps) set)) (body c) (λ r p. follows_trans (all_follows w.texts ps (values_of vs) b c e) p) (k c e)
 
-        shape_fine : (e : Shape) (ls : Levels) (b : Bindings) (s : Source) → LevelsFine w ls → AreSafeFunctions w s.store → Covers σ b → IsSafeShape w σ e → Fine w (Binds b (shape_names e)) (eval_shape w e ls b s)
-        shape_fine (int i) ls b s fine all covers is = (nothing b, all)
-        shape_fine (atom n) ls b s fine all covers is = (nothing b, all)
-        shape_fine (var n) ls b s fine all covers is = named_fine n (value_of n b) b s all refl (covers n is)
-        shape_fine any ls b s fine all covers is = absurd is
-        shape_fine (list es) ls b s fine all covers is = then_fine w (BindAll b (all_names es)) (Binds b (all_names es)) (eval_all w es ls b s) _ (all_fine es ls b s fine all covers is) (λ a t p q. (p, q))
-        shape_fine (list_to es e) ls b s fine all covers is = then_fine w (BindAll b (all_names es)) (Binds b (union (all_names es) (names e))) (eval_all w es ls b s) _ (all_fine es ls b s fine all covers is.0) (λ a t p q.
-            then_fine w (Binds a.1 (names e)) (Binds b (union (all_names es) (names e))) (eval w e ls a.1 t) _ (eval_fine e ls a.1 t fine q (still σ b (all_names es) a.1 covers p) is.1) (λ d u r z. (follows_trans p r, z)))
-        shape_fine (tuple es) ls b s fine all covers is = then_fine w (BindAll b (all_names es)) (Binds b (all_names es)) (eval_all w es ls b s) _ (all_fine es ls b s fine all covers is) (λ a t p q. (p, q))
-        shape_fine (matching p e) ls b s fine all covers is = then_fine w (Binds b (names e)) (Binds b (union (names p) (names e))) (eval w e ls b s) _ (eval_fine e ls b s fine all covers is) (λ a t q r.
-            weaken_fine w (Binds a.1 (names p)) (Binds b (union (names p) (names e))) _ (λ d z. swap b d.1 (names e) (names p) (follows_trans q z)) (matched_fine p _ a.0 a.1 t r refl))
-        shape_fine (call (tree p (atom n)) es) ls b s fine all covers is =
-            subst (λ o. Fine w (Binds b (union no_names (all_names es))) (and_then (target o (text w.texts n) (count es) b s) (λ g t. and_then (eval_all w es ls g.1 t) (λ a u. beside a.1 (apply (side w) ls g.0 a.0 u))))) (sym is.0.1)
-            (then_fine w (BindAll b (all_names es)) (Binds b (union no_names (all_names es))) (eval_all w es ls b s) _ (all_fine es ls b s fine all covers is.1)
-            (λ a u i o. beside_fine b a.1 _ _ (follows_trans (nothing b) i) (local_fine ls fine (text w.texts n) (count es) is.0.0 is.0.1 a.0 u o)))
-        shape_fine (call (tree p _) es) ls b s fine all covers is = absurd is.0
-        shape_fine (remote m f es) ls b s fine all covers is =
-            let last = union (names m) (union (names f) (all_names es)) in
-            then_fine w (Binds b (names m)) (Binds b last) (eval w m ls b s) _ (eval_fine m ls b s fine all covers is.0) (λ g t p q.
-            let first = still σ b (names m) g.1 covers p in
-            then_fine w (Binds g.1 (names f)) (Binds b last) (eval w f ls g.1 t) _ (eval_fine f ls g.1 t fine q first is.1) (λ h u r z.
-            then_fine w (BindAll h.1 (all_names es)) (Binds b last) (eval_all w es ls h.1 u) _ (all_fine es ls h.1 u fine z (still σ g.1 (names f) h.1 first r) is.2) (λ a x i o.
-            beside_fine b a.1 last _ (follows_trans p (follows_trans r i)) (remote_fine ls fine g.0 h.0 a.0 x o))))
+    -- the names that both bind
+    chosen_common : (ps : Trees) (set other : NameSet) (o : Option Bindings) (vs : List Value) (b : Bindings) (body : Bindings → source.Answer) (others : source.Answer) → match_all w.texts ps vs b ≡ o →
+        ((c : Bindings) → match_all w.texts ps vs b ≡ Some c → Fine w (Binds c set) (body c)) → Fine w (Binds b other) others → Fine w (Binds b (common (union (all_names ps) set) other)) (chosen o body others)
+    chosen_common ps set other None vs b body others e k l = weaken_fine w (Binds b other) (Binds b (common (union (all_names ps) set) other)) others (λ r p. common_right b r.1 (union (all_names ps) set) other p) l
+    chosen_common ps set other (Some c) vs b body others e k l = weaken_fine w (Binds c set) (Binds b (common (union (all_names ps) set) other)) (body c)
+        (λ r p. common_left b r.1 (union (all_names ps) set) other (follows_trans (all_follows w.texts ps (values_of vs) b c e) p)) (k c e)
 
-        all_fine : (es : Trees) (ls : Levels) (b : Bindings) (s : Source) → LevelsFine w ls → AreSafeFunctions w s.store → Covers σ b → AreSafe w σ es → Fine w (BindAll b (all_names es)) (eval_all w es ls b s)
-        all_fine end ls b s fine all covers is = (nothing b, all)
-        all_fine (more e es) ls b s fine all covers is = then_fine w (Binds b (names e)) (BindAll b (union (names e) (all_names es))) (eval w e ls b s) _ (eval_fine e ls b s fine all covers is.0) (λ a t p q.
-            then_fine w (BindAll a.1 (all_names es)) (BindAll b (union (names e) (all_names es))) (eval_all w es ls a.1 t) _ (all_fine es ls a.1 t fine q (still σ b (names e) a.1 covers p) is.1) (λ d u r z. (follows_trans p r, z)))
+    mutual
+      eval_fine : (σ : NameSet) (e : Tree) (ls : Levels) (b : Bindings) (s : Source) → LevelsFine w ls → AreSafeFunctions w s.store → Covers σ b → IsSafe w σ e → Fine w (Binds b (sure e)) (eval w e ls b s)
+      eval_fine σ (tree p e) ls b s fine all covers is = shape_fine σ e ls b s fine all covers is
 
-    abbrev AnyAnswer : (Value × Bindings) → Type 0
-    AnyAnswer a = Unit {0}
+      shape_fine : (σ : NameSet) (e : Shape) (ls : Levels) (b : Bindings) (s : Source) → LevelsFine w ls → AreSafeFunctions w s.store → Covers σ b → IsSafeShape w σ e → Fine w (Binds b (shape_sure e)) (eval_shape w e ls b s)
+      shape_fine σ (int i) ls b s fine all covers is = (nothing b, all)
+      shape_fine σ (atom n) ls b s fine all covers is = (nothing b, all)
+      shape_fine σ (var n) ls b s fine all covers is = named_fine n (value_of n b) b s all refl (covers n is)
+      shape_fine σ any ls b s fine all covers is = absurd is
+      shape_fine σ (list es) ls b s fine all covers is = then_fine w (BindAll b (all_sure es)) (Binds b (all_sure es)) (eval_all w es ls b s) _ (all_fine σ es ls b s fine all covers is) (λ a t p q. (p, q))
+      shape_fine σ (list_to es e) ls b s fine all covers is = then_fine w (BindAll b (all_sure es)) (Binds b (union (all_sure es) (sure e))) (eval_all w es ls b s) _ (all_fine σ es ls b s fine all covers is.0) (λ a t p q.
+          then_fine w (Binds a.1 (sure e)) (Binds b (union (all_sure es) (sure e))) (eval w e ls a.1 t) _ (eval_fine σ e ls a.1 t fine q (still σ b (all_sure es) a.1 covers p) is.1) (λ d u r z. (follows_trans p r, z)))
+      shape_fine σ (tuple es) ls b s fine all covers is = then_fine w (BindAll b (all_sure es)) (Binds b (all_sure es)) (eval_all w es ls b s) _ (all_fine σ es ls b s fine all covers is) (λ a t p q. (p, q))
+      shape_fine σ (matching p e) ls b s fine all covers is = then_fine w (Binds b (sure e)) (Binds b (union (sure e) (names p))) (eval w e ls b s) _ (eval_fine σ e ls b s fine all covers is) (λ a t q r.
+          weaken_fine w (Binds a.1 (names p)) (Binds b (union (sure e) (names p))) _ (λ d z. follows_trans q z) (matched_fine p _ a.0 a.1 t r refl))
+      shape_fine σ (call (tree p (atom n)) es) ls b s fine all covers is =
+          subst (λ o. Fine w (Binds b (union no_names (all_sure es))) (and_then (target o (text w.texts n) (count es) b s) (λ g t. and_then (eval_all w es ls g.1 t) (λ a u. beside a.1 (apply (side w) ls g.0 a.0 u))))) (sym is.0.1)
+          (then_fine w (BindAll b (all_sure es)) (Binds b (union no_names (all_sure es))) (eval_all w es ls b s) _ (all_fine σ es ls b s fine all covers is.1)
+          (λ a u i o. beside_fine b a.1 _ _ (follows_trans (nothing b) i) (local_fine ls fine (text w.texts n) (count es) is.0.0 is.0.1 a.0 u o)))
+      shape_fine σ (call (tree p _) es) ls b s fine all covers is = absurd is.0
+      shape_fine σ (remote m f es) ls b s fine all covers is =
+          let last = union (sure m) (union (sure f) (all_sure es)) in
+          then_fine w (Binds b (sure m)) (Binds b last) (eval w m ls b s) _ (eval_fine σ m ls b s fine all covers is.0) (λ g t p q.
+          let first = still σ b (sure m) g.1 covers p in
+          then_fine w (Binds g.1 (sure f)) (Binds b last) (eval w f ls g.1 t) _ (eval_fine σ f ls g.1 t fine q first is.1) (λ h u r z.
+          then_fine w (BindAll h.1 (all_sure es)) (Binds b last) (eval_all w es ls h.1 u) _ (all_fine σ es ls h.1 u fine z (still σ g.1 (sure f) h.1 first r) is.2) (λ a x i o.
+          beside_fine b a.1 last _ (follows_trans p (follows_trans r i)) (remote_fine ls fine g.0 h.0 a.0 x o))))
+      shape_fine σ (case_of e cs) ls b s fine all covers is =
+          let last = union (sure e) (clauses_sure cs) in
+          then_fine w (Binds b (sure e)) (Binds b last) (eval w e ls b s) _ (eval_fine σ e ls b s fine all covers is.0) (λ a t p q.
+          then_fine w (Binds a.1 (clauses_sure cs)) (Binds b last) (pick w cs (a.0 ∷ []) ls a.1 (λ u. u) (λ u. Raises Error (case_clause a.0) u) t) _
+          (pick_fine (union σ (sure e)) cs (a.0 ∷ []) ls a.1 (case_clause a.0) t fine q (covers_union σ (sure e) b a.1 covers p) is.1)
+          (λ r u i z. (follows_trans p (kept_follows (clauses_sure cs) a.1 r.1 i), z)))
 
-    body_fine : (σ : NameSet) (es : Trees) (ls : Levels) (b : Bindings) (s : Source) → LevelsFine w ls → AreSafeFunctions w s.store → Covers σ b → 1 ≤ count es → AreSafeInTurn w σ es → Fine w AnyAnswer (eval_body w es ls b s)
-    body_fine σ end ls b s fine all covers full is = absurd (omega arith)
-    body_fine σ (more e end) ls b s fine all covers full is = weaken_fine w (Binds b (names e)) AnyAnswer (eval w e ls b s) (λ a p. tt) (eval_fine σ e ls b s fine all covers is.0)
-    body_fine σ (more e (more d es)) ls b s fine all covers full is = then_fine w (Binds b (names e)) AnyAnswer (eval w e ls b s) _ (eval_fine σ e ls b s fine all covers is.0)
-        (λ a t p q. body_fine (union σ (names e)) (more d es) ls a.1 t fine q (covers_union σ (names e) b a.1 covers p) (omega arith) is.1)
+      all_fine : (σ : NameSet) (es : Trees) (ls : Levels) (b : Bindings) (s : Source) → LevelsFine w ls → AreSafeFunctions w s.store → Covers σ b → AreSafe w σ es → Fine w (BindAll b (all_sure es)) (eval_all w es ls b s)
+      all_fine σ end ls b s fine all covers is = (nothing b, all)
+      all_fine σ (more e es) ls b s fine all covers is = then_fine w (Binds b (sure e)) (BindAll b (union (sure e) (all_sure es))) (eval w e ls b s) _ (eval_fine σ e ls b s fine all covers is.0) (λ a t p q.
+          then_fine w (BindAll a.1 (all_sure es)) (BindAll b (union (sure e) (all_sure es))) (eval_all w es ls a.1 t) _ (all_fine σ es ls a.1 t fine q (still σ b (sure e) a.1 covers p) is.1) (λ d u r z. (follows_trans p r, z)))
+
+      body_fine : (σ : NameSet) (es : Trees) (ls : Levels) (b : Bindings) (s : Source) → LevelsFine w ls → AreSafeFunctions w s.store → Covers σ b → 1 ≤ count es → AreSafeInTurn w σ es → Fine w (Binds b (all_sure es)) (eval_body w es ls b s)
+      body_fine σ end ls b s fine all covers full is = absurd (omega arith)
+      body_fine σ (more e end) ls b s fine all covers full is = weaken_fine w (Binds b (sure e)) (Binds b (union (sure e) no_names)) (eval w e ls b s) (λ a p. follows_trans p (nothing a.1)) (eval_fine σ e ls b s fine all covers is.0)
+      body_fine σ (more e (more d es)) ls b s fine all covers full is = then_fine w (Binds b (sure e)) (Binds b (all_sure (more e (more d es)))) (eval w e ls b s) _ (eval_fine σ e ls b s fine all covers is.0) (λ a t p q.
+          weaken_fine w (Binds a.1 (all_sure (more d es))) (Binds b (all_sure (more e (more d es)))) _ (λ r z. follows_trans p z)
+          (body_fine (union σ (sure e)) (more d es) ls a.1 t fine q (covers_union σ (sure e) b a.1 covers p) (omega arith) is.1))
+
+      -- the first clause that matches; where none does, an error
+      pick_fine : (σ : NameSet) (cs : Clauses) (vs : List Value) (ls : Levels) (b : Bindings) (reason : Value) (s : Source) → LevelsFine w ls → AreSafeFunctions w s.store → Covers σ b → AreSafeClauses w σ cs →
+          Fine w (Binds b (clauses_sure cs)) (pick w cs vs ls b (λ t. t) (λ t. Raises Error reason t) s)
+      pick_fine σ no_clauses vs ls b reason s fine all covers is = all
+      pick_fine σ (clause p ps (or_guard es gs) body cs) vs ls b reason s fine all covers is = absurd cc
+      pick_fine σ (clause p ps no_guard body no_clauses) vs ls b reason s fine all covers is =
+          chosen_fine ps (all_sure body) (match_all w.texts ps vs b) vs b (λ c. eval_body w body ls c s) (Raises Error reason s) refl
+          (λ c e. body_fine (union σ (all_names ps)) body ls c s fine all (covers_union σ (all_names ps) b c covers (all_follows w.texts ps (values_of vs) b c e)) is.1 is.2) all
+      pick_fine σ (clause p ps no_guard body (clause q qs h d cs)) vs ls b reason s fine all covers is =
+          chosen_common ps (all_sure body) (clauses_sure (clause q qs h d cs)) (match_all w.texts ps vs b) vs b (λ c. eval_body w body ls c s) (pick w (clause q qs h d cs) vs ls b (λ t. t) (λ t. Raises Error reason t) s) refl
+          (λ c e. body_fine (union σ (all_names ps)) body ls c s fine all (covers_union σ (all_names ps) b c covers (all_follows w.texts ps (values_of vs) b c e)) is.1 is.2)
+          (pick_fine σ (clause q qs h d cs) vs ls b reason s fine all covers is.3)
 
     -- ---- functions
 
-    clauses_fine : (σ : NameSet) (cs : Clauses) (vs : List Value) (ls : Levels) (saved : Bindings) (s : Source) → LevelsFine w ls → AreSafeFunctions w s.store → Covers σ saved → AreSafeClauses w σ cs → Fine w AnyAnswer (pick w cs vs ls saved (λ t. t) (λ t. Raises Error function_clause t) s)
-    clauses_fine σ no_clauses vs ls saved s fine all covers is = all
-    clauses_fine σ (clause p ps (or_guard es gs) body cs) vs ls saved s fine all covers is = absurd cc
-    clauses_fine σ (clause p ps no_guard body cs) vs ls saved s fine all covers is = by (match_all w.texts ps vs saved) refl (clauses_fine σ cs vs ls saved s fine all covers is.3)
-      where
-        by : (o : Option Bindings) → match_all w.texts ps vs saved ≡ o → Fine w AnyAnswer (pick w cs vs ls saved (λ t. t) (λ t. Raises Error function_clause t) s) → Fine w AnyAnswer (chosen o (λ c. eval_body w body ls c s) (pick w cs vs ls saved (λ t. t) (λ t. Raises Error function_clause t) s))
-        by None e q = q
-        by (Some b) e q = body_fine (union σ (all_names ps)) body ls b s fine all (covers_union σ (all_names ps) saved b covers (all_follows w.texts ps (values_of vs) saved b e)) is.1 is.2
-
     run_fine : (ls : Levels) (f : Body) (vs : List Value) (s : Source) → LevelsFine w ls → AreSafeFunctions w s.store → IsSafeBody w f → Fine w Any (run_body w ls f vs s)
-    run_fine ls (by_clauses cs saved) vs s fine all is = then_fine w AnyAnswer Any (pick w cs vs ls saved (λ t. t) (λ t. Raises Error function_clause t) s) _ (clauses_fine is.0 cs vs ls saved s fine all is.1 is.2) (λ a t p q. (tt, q))
+    run_fine ls (by_clauses cs saved) vs s fine all is = then_fine w (Binds saved (clauses_sure cs)) Any (pick w cs vs ls saved (λ t. t) (λ t. Raises Error function_clause t) s) _ (pick_fine is.0 cs vs ls saved function_clause s fine all is.1 is.2) (λ a t p q. (tt, q))
     run_fine ls information vs s fine all is = remote_fine ls fine (Atom (codes "erlang")) (Atom (codes "get_module_info")) (Atom w.name ∷ vs) s all
 
     pub levels_fine : (n : ℕ) → LevelsFine w (levels w n)

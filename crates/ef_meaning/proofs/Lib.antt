@@ -16,6 +16,7 @@ pub mod Fails
 pub mod Functions
 pub mod Renamed
 pub mod Matches
+pub mod CaseKeeps
 pub mod Terms
 pub mod Appends
 pub mod Later
@@ -26,4 +27,5 @@ pub mod Meant
 pub mod Kept
 pub mod RowsHold
 pub mod NamedValue
+pub mod TaggedValue
 pub mod ExamplesKeep

@@ -1,5 +1,5 @@
 -- A built module whose names are bound is never without meaning.
-use Rattle.std.proofs.Common.{◌≡◌, ◌≢◌, ℕ, zero, suc, ◌≤◌, ◌&&◌, ◌||◌, ◌==◌, ⊎_elim, Bool, true, false, if◌then◌else◌, codes, bytes_eq, List, [], ◌∷◌, ◌++◌, length, map, Option, Some, refl, sym, ap, ◌∙◌, subst, arith}
+use Rattle.std.proofs.Common.{◌≡◌, ◌≢◌, ℕ, zero, suc, ◌≤◌, ◌&&◌, ◌==◌, ⊎_elim, Bool, true, false, if◌then◌else◌, codes, bytes_eq, List, [], ◌∷◌, ◌++◌, length, map, Option, Some, refl, sym, ap, ◌∙◌, subst, arith}
 use Rattle.std.proofs.lemmas.Bool.Decides.{nat_tests}
 use Rattle.std.proofs.lemmas.Slice.Eq.{bytes_eq-Decides}
 use Rattle.std.specs.List.{flat_map}
@@ -8,13 +8,17 @@ use Rattle.ef_base.specs.declared.fault.Fault.{Fault}
 use Rattle.ef_base.specs.declared.fault.Place.{Place}
 use Rattle.ef_base.specs.Texts.{Texts, text}
 use Rattle.ef_forms.specs.declared.tables.FunctionName.{FunctionName}
-use Rattle.ef_forms.specs.Tree.{Tree, Shape, Trees, Clauses, FunctionTree, ModuleTree, tree, int, atom, var, any, list, list_to, tuple, matching, call, remote, end, more, no_guard, or_guard, no_clauses, clause, count}
+use Rattle.ef_forms.specs.Tree.{Tree, Shape, Trees, Clauses, FunctionTree, ModuleTree, tree, int, atom, var, any, list, list_to, tuple, matching, call, remote, case_of, end, more, no_guard, or_guard, no_clauses, clause, count}
 use Rattle.ef_forms.specs.Built.{Each, IsAmong, IsDefined, IsCallOf, IsForeignModule, IsAtom, IsBuiltTree, IsBuiltShape, AreBuilt, AreBuiltClauses, IsBuiltFunction, IsBuilt, key_of, functions_in, defined_in, exports_in}
-use Rattle.ef_forms.specs.Ways.{NameSet, no_names, union, pairs, names, shape_names, all_names, ways, shape_ways, side_by_side, bind, unbound, use_faults, faults, shape_faults, all_faults, body_faults, clauses_faults}
+use Rattle.ef_forms.specs.Ways.{NameSet, no_names, union, all_names, ways, bind, on_all, on_some, unbound, unsafe, use_faults, patterns_faults, faults, shape_faults, all_faults, body_faults, clauses_faults}
+use Rattle.ef_forms.specs.Sure.{sure}
+use Rattle.ef_forms.proofs.Bools.{or_more}
+use Rattle.ef_forms.proofs.Growth.{all_flat, grows_bind}
+use Rattle.ef_forms.proofs.Grows.{grows_ways}
 use Rattle.ef_meaning.specs.Lookup.{FunctionKey, find}
 use Rattle.ef_meaning.specs.End.{Wrong}
 use Rattle.ef_meaning.specs.Source.{Function, Module, levels, defined, module_info, module_of}
-use Rattle.ef_meaning.specs.Bound.{HaveBodies, IsBoundFunction, IsBoundModule}
+use Rattle.ef_meaning.specs.Bound.{IsBoundFunction, IsBoundModule}
 use Rattle.ef_meaning.specs.Runs.{Run, IsRun, Lists, Exports, source_run, start}
 use Rattle.ef_meaning.proofs.Fine.{IsFound, IsSafe, IsSafeShape, IsSafeTarget, AreSafe, AreSafeInTurn, AreSafeClauses, IsSafeBody, IsSafeModule, levels_fine, local_fine, fine_meant}
 
@@ -24,79 +28,23 @@ same_number n = grind (arith, nat_tests)
 same_text : (t : List ℕ) → bytes_eq t t ≡ true
 same_text t = (bytes_eq-Decides t t).1 refl
 
--- ---- sets of names
+-- ---- names that are bound on all ways
 
-abbrev Within : NameSet → NameSet → Type 0
-Within s t = (y : ℕ) → s y ≡ true → t y ≡ true
-
--- there is one way, on which at most these names are bound
-record OneWay (sets : List NameSet) (most : NameSet) : Type 0 where
-  set : NameSet
-  is : sets ≡ set ∷ []
-  within : Within set most
+-- what is bound on all of these ways is in the set
+abbrev Within : List NameSet → NameSet → Type 0
+Within sets t = (n : Name) → on_all n sets ≡ true → t n.index ≡ true
 
 both_empty : (xs ys : List Fault) → xs ++ ys ≡ [] → (xs ≡ []) × (ys ≡ [])
 both_empty [] ys p = (refl, p)
 both_empty (x ∷ xs) ys p = absurd cc
 
-wider : (x y z : Bool) → (x ≡ true → y ≡ true) → (x || z) ≡ true → (y || z) ≡ true
-wider true y z h p = ap (λ b. b || z) (h refl)
-wider false true z h p = refl
-wider false false z h p = p
+-- the names of a pattern, too
+within_bind : (t : NameSet) (sets : List NameSet) (σ : NameSet) → Within sets σ → Within (flat_map (bind t) sets) (union σ t)
+within_bind t sets σ within n p = or_more (σ n.index) (on_all n sets) (t n.index) (within n) (sym (all_flat (bind t) t n (λ s. (grows_bind t).all n s) sets) ∙ p)
 
-merged : (x a b : Bool) → ((x || a) || (x || b)) ≡ true → (x || (a || b)) ≡ true
-merged true a b p = refl
-merged false a b p = p
-
-turned : (x a b : Bool) → ((x || b) || a) ≡ true → (x || (a || b)) ≡ true
-turned true a b p = refl
-turned false true b p = refl
-turned false false true p = refl
-turned false false false p = p
-
-right_nothing : (x : Bool) → x ≡ true → (x || false) ≡ true
-right_nothing x p = ap (λ b. b || false) p
-
-joined : (x y a b : Bool) → (x ≡ true → a ≡ true) → (y ≡ true → b ≡ true) → (x || y) ≡ true → (a || b) ≡ true
-joined true y a b f g p = ap (λ z. z || b) (f refl)
-joined false y true b f g p = refl
-joined false y false b f g p = g p
-
-staying : (s : NameSet) → OneWay (s ∷ []) (union s no_names)
-staying s = record { set = s; is = refl; within = λ y p. right_nothing (s y) p }
-
-side : (s a b : NameSet) (xs ys : List NameSet) → OneWay xs (union s a) → OneWay ys (union s b) → OneWay (pairs xs ys) (union s (union a b))
-side s a b xs ys p q = record {
-  set = union p.set q.set;
-  is = λ i. pairs (p.is i) (q.is i);
-  within = λ y h. merged (s y) (a y) (b y) (joined (p.set y) (q.set y) (s y || a y) (s y || b y) (p.within y) (q.within y) h);
-}
-
-mutual
-  tree_way : (e : Tree) (s : NameSet) → OneWay (ways e s) (union s (names e))
-  tree_way (tree p e) s = shape_way e s
-
-  shape_way : (e : Shape) (s : NameSet) → OneWay (shape_ways e s) (union s (shape_names e))
-  shape_way (int i) s = staying s
-  shape_way (atom n) s = staying s
-  shape_way (var n) s = record { set = union s (shape_names (var n)); is = refl; within = λ y p. p }
-  shape_way any s = staying s
-  shape_way (list es) s = all_way es s
-  shape_way (list_to es e) s = side s (all_names es) (names e) _ _ (all_way es s) (tree_way e s)
-  shape_way (tuple es) s = all_way es s
-  shape_way (matching p e) s =
-      let way = tree_way e s in
-      record {
-        set = union way.set (names p);
-        is = ap (flat_map (bind (names p))) way.is;
-        within = λ y h. turned (s y) (names p y) (names e y) (wider (way.set y) (s y || names e y) (names p y) (way.within y) h);
-      }
-  shape_way (call f es) s = side s (names f) (all_names es) _ _ (tree_way f s) (all_way es s)
-  shape_way (remote m f es) s = side s (names m) (union (names f) (all_names es)) _ _ (tree_way m s) (side s (names f) (all_names es) _ _ (tree_way f s) (all_way es s))
-
-  all_way : (es : Trees) (s : NameSet) → OneWay (side_by_side es s) (union s (all_names es))
-  all_way end s = staying s
-  all_way (more e es) s = side s (names e) (all_names es) _ _ (tree_way e s) (all_way es s)
+-- behind an expression its sure names, too
+within_ways : (e : Tree) (sets : List NameSet) (σ : NameSet) → Within sets σ → Within (flat_map (ways e) sets) (union σ (sure e))
+within_ways e sets σ within n p = or_more (σ n.index) (on_all n sets) (sure e n.index) (within n) (sym (all_flat (ways e) (sure e) n (λ s. (grows_ways e).all n s) sets) ∙ p)
 
 -- ---- functions that are found
 
@@ -138,9 +86,9 @@ module _ (all : Texts) where
 
     -- ---- names on the way
 
-    safe_target : (s : NameSet) (f : Tree) (a : ℕ) → IsCallOf all (defined_in m.forms) f a → IsSafeTarget world s f a
-    safe_target s (tree p (atom n)) a built = found_defined (record { name = n; arity = a }) built
-    safe_target s (tree p _) a built = absurd built
+    safe_target : (f : Tree) (a : ℕ) → IsCallOf all (defined_in m.forms) f a → IsSafeTarget world f a
+    safe_target (tree p (atom n)) a built = found_defined (record { name = n; arity = a }) built
+    safe_target (tree p _) a built = absurd built
 
     foreign_atom : (e : Tree) → IsForeignModule all e → IsAtom e
     foreign_atom (tree p (atom n)) q = tt
@@ -150,57 +98,58 @@ module _ (all : Texts) where
     safe_atom s (tree p (atom n)) q = tt
     safe_atom s (tree p _) q = absurd q
 
-    module _ (s t : NameSet) (within : Within s t) where
-      safe_use : (p : Place) (n : Name) → use_faults all p n (s ∷ []) ≡ [] → t n.index ≡ true
-      safe_use p n none = by (s n.index) refl none
-        where
-          by : (b : Bool) → s n.index ≡ b → (if b || false then [] else (unbound all p n ∷ [])) ≡ [] → t n.index ≡ true
-          by true e q = within n.index e
-          by false e q = absurd cc
+    safe_use : (sets : List NameSet) (t : NameSet) → Within sets t → (p : Place) (n : Name) → use_faults all p n sets ≡ [] → t n.index ≡ true
+    safe_use sets t within p n none = by (on_all n sets) refl (on_some n sets) none
+      where
+        by : (b : Bool) → on_all n sets ≡ b → (c : Bool) → (if b then [] else (if c then (unsafe all p n ∷ []) else (unbound all p n ∷ []))) ≡ [] → t n.index ≡ true
+        by true e c q = within n e
+        by false e true q = absurd cc
+        by false e false q = absurd cc
 
-      mutual
-        safe_tree : (e : Tree) → IsBuiltTree all (defined_in m.forms) e → faults all e (s ∷ []) ≡ [] → IsSafe world t e
-        safe_tree (tree p e) built none = safe_shape p e built none
+    mutual
+      safe_tree : (e : Tree) (s : List NameSet) (t : NameSet) → Within s t → IsBuiltTree all (defined_in m.forms) e → faults all e s ≡ [] → IsSafe world t e
+      safe_tree (tree p e) s t within built none = safe_shape e p s t within built none
 
-        safe_shape : (p : Place) (e : Shape) → IsBuiltShape all (defined_in m.forms) e → shape_faults all p e (s ∷ []) ≡ [] → IsSafeShape world t e
-        safe_shape p (int i) built none = tt
-        safe_shape p (atom n) built none = tt
-        safe_shape p (var n) built none = safe_use p n none
-        safe_shape p any built none = absurd cc
-        safe_shape p (list es) built none = safe_trees es built none
-        safe_shape p (list_to es e) built none =
-            let parts = both_empty (all_faults all es (s ∷ [])) (faults all e (s ∷ [])) none in
-            (safe_trees es built.0 parts.0, safe_tree e built.1 parts.1)
-        safe_shape p (tuple es) built none = safe_trees es built none
-        safe_shape p (matching q e) built none = safe_tree e built.1 none
-        safe_shape p (call f es) built none =
-            (safe_target t f (count es) built.0, safe_trees es built.1 (both_empty (faults all f (s ∷ [])) (all_faults all es (s ∷ [])) none).1)
-        safe_shape p (remote g f es) built none =
-            let parts = both_empty (faults all g (s ∷ [])) (faults all f (s ∷ []) ++ all_faults all es (s ∷ [])) none in
-            (safe_atom t g (foreign_atom g built.0), safe_atom t f built.1, safe_trees es built.2 (both_empty (faults all f (s ∷ [])) (all_faults all es (s ∷ [])) parts.1).1)
+      safe_shape : (e : Shape) (p : Place) (s : List NameSet) (t : NameSet) → Within s t → IsBuiltShape all (defined_in m.forms) e → shape_faults all p e s ≡ [] → IsSafeShape world t e
+      safe_shape (int i) p s t within built none = tt
+      safe_shape (atom n) p s t within built none = tt
+      safe_shape (var n) p s t within built none = safe_use s t within p n none
+      safe_shape any p s t within built none = absurd cc
+      safe_shape (list es) p s t within built none = safe_trees es s t within built none
+      safe_shape (list_to es e) p s t within built none =
+          let parts = both_empty (all_faults all es s) (faults all e s) none in
+          (safe_trees es s t within built.0 parts.0, safe_tree e s t within built.1 parts.1)
+      safe_shape (tuple es) p s t within built none = safe_trees es s t within built none
+      safe_shape (matching q e) p s t within built none = safe_tree e s t within built.1 (both_empty (faults all e s) _ none).0
+      safe_shape (call f es) p s t within built none =
+          (safe_target f (count es) built.0, safe_trees es s t within built.1 (both_empty (faults all f s) (all_faults all es s) none).1)
+      safe_shape (remote g f es) p s t within built none =
+          let parts = both_empty (faults all g s) (faults all f s ++ all_faults all es s) none in
+          (safe_atom t g (foreign_atom g built.0), safe_atom t f built.1, safe_trees es s t within built.2 (both_empty (faults all f s) (all_faults all es s) parts.1).1)
+      safe_shape (case_of e cs) p s t within built none =
+          let parts = both_empty (faults all e s) (clauses_faults all cs (flat_map (ways e) s)) none in
+          (safe_tree e s t within built.0 parts.0, safe_clauses cs 1 (flat_map (ways e) s) (union t (sure e)) (within_ways e s t within) built.2 parts.1)
 
-        safe_trees : (es : Trees) → AreBuilt all (defined_in m.forms) es → all_faults all es (s ∷ []) ≡ [] → AreSafe world t es
-        safe_trees end built none = tt
-        safe_trees (more e es) built none =
-            let parts = both_empty (faults all e (s ∷ [])) (all_faults all es (s ∷ [])) none in
-            (safe_tree e built.0 parts.0, safe_trees es built.1 parts.1)
+      safe_trees : (es : Trees) (s : List NameSet) (t : NameSet) → Within s t → AreBuilt all (defined_in m.forms) es → all_faults all es s ≡ [] → AreSafe world t es
+      safe_trees end s t within built none = tt
+      safe_trees (more e es) s t within built none =
+          let parts = both_empty (faults all e s) (all_faults all es s) none in
+          (safe_tree e s t within built.0 parts.0, safe_trees es s t within built.1 parts.1)
 
-    safe_in_turn : (es : Trees) (s t : NameSet) → Within s t → AreBuilt all (defined_in m.forms) es → body_faults all es (s ∷ []) ≡ [] → AreSafeInTurn world t es
-    safe_in_turn end s t within built none = tt
-    safe_in_turn (more e es) s t within built none =
-        let parts = both_empty (faults all e (s ∷ [])) (body_faults all es (flat_map (ways e) (s ∷ []))) none in
-        let way = tree_way e s in (
-          safe_tree s t within e built.0 parts.0,
-          safe_in_turn es way.set (union t (names e)) (λ y q. wider (s y) (t y) (names e y) (within y) (way.within y q)) built.1
-              (subst (λ z. body_faults all es (z ++ []) ≡ []) way.is parts.1),
-        )
+      safe_in_turn : (es : Trees) (s : List NameSet) (t : NameSet) → Within s t → AreBuilt all (defined_in m.forms) es → body_faults all es s ≡ [] → AreSafeInTurn world t es
+      safe_in_turn end s t within built none = tt
+      safe_in_turn (more e es) s t within built none =
+          let parts = both_empty (faults all e s) (body_faults all es (flat_map (ways e) s)) none in
+          (safe_tree e s t within built.0 parts.0, safe_in_turn es (flat_map (ways e) s) (union t (sure e)) (within_ways e s t within) built.1 parts.1)
 
-    safe_clauses : (arity : ℕ) (cs : Clauses) → AreBuiltClauses all (defined_in m.forms) arity cs → HaveBodies cs → clauses_faults all cs (no_names ∷ []) ≡ [] → AreSafeClauses world no_names cs
-    safe_clauses arity no_clauses built bodies none = tt
-    safe_clauses arity (clause p ps (or_guard es gs) body cs) built bodies none = absurd built
-    safe_clauses arity (clause p ps no_guard body cs) built bodies none =
-        let parts = both_empty (body_faults all body (union no_names (all_names ps) ∷ [])) (clauses_faults all cs (no_names ∷ [])) none in
-        (refl, bodies.0, safe_in_turn body (union no_names (all_names ps)) (union no_names (all_names ps)) (λ y q. q) built.2 parts.0, safe_clauses arity cs built.3 bodies.1 parts.1)
+      safe_clauses : (cs : Clauses) (arity : ℕ) (s : List NameSet) (t : NameSet) → Within s t → AreBuiltClauses all (defined_in m.forms) arity cs → clauses_faults all cs s ≡ [] → AreSafeClauses world t cs
+      safe_clauses no_clauses arity s t within built none = tt
+      safe_clauses (clause p ps (or_guard es gs) body cs) arity s t within built none = absurd built
+      safe_clauses (clause p ps no_guard body cs) arity s t within built none =
+          let inside = flat_map (bind (all_names ps)) s in
+          let parts = both_empty (patterns_faults all ps s) (body_faults all body inside ++ clauses_faults all cs s) none in
+          let rest = both_empty (body_faults all body inside) (clauses_faults all cs s) parts.1 in
+          (refl, built.2, safe_in_turn body inside (union t (all_names ps)) (within_bind (all_names ps) s t within) built.3 rest.0, safe_clauses cs arity s t within built.4 rest.1)
 
     -- each function of these
     abbrev EachSafe : List (FunctionKey × Function) → Type 0
@@ -209,7 +158,7 @@ module _ (all : Texts) where
 
     each_safe : (fs : List FunctionTree) → Each (IsBuiltFunction all (defined_in m.forms)) fs → Each (IsBoundFunction all) fs → EachSafe (map (defined all) fs ++ (module_info 0 ∷ module_info 1 ∷ []))
     each_safe [] built bound = (tt, (tt, tt))
-    each_safe (f ∷ fs) built bound = ((no_names, (λ n e. absurd cc), safe_clauses f.arity f.clauses built.0.1 bound.0.0 bound.0.1), each_safe fs built.1 bound.1)
+    each_safe (f ∷ fs) built bound = ((no_names, (λ n e. absurd cc), safe_clauses f.clauses f.arity (no_names ∷ []) no_names (λ n e. absurd cc) built.0.1 bound.0), each_safe fs built.1 bound.1)
 
     safe_found : (gs : List (FunctionKey × Function)) → EachSafe gs → (f : List ℕ) (a : ℕ) (g : Function) → find f a gs ≡ Some g → IsSafeBody world g.body
     safe_found [] safe f a g is = absurd cc

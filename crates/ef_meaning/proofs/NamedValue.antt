@@ -36,7 +36,7 @@ module _ (now : Texts) (x : Name) (n : ℕ) (bound : List Bind) (free : held bou
   abbrev made : PatTrees
   made = more_pats (pat_var (Numbered n)) no_pats
 
-  set_last : (bs : List Bind) (v : Value) (c : Vars) → HaveValues bs c → HaveValues (bs ++ bind x (Numbered n) ∷ []) ((Numbered n, v) ∷ c)
+  pub set_last : (bs : List Bind) (v : Value) (c : Vars) → HaveValues bs c → HaveValues (bs ++ bind x (Numbered n) ∷ []) ((Numbered n, v) ∷ c)
   set_last [] v c p = ((v, value_here (Numbered n) v c), tt)
   set_last (b ∷ bs) v c p = (set_more (Numbered n) b.var v c p.0, set_last bs v c p.1)
 
@@ -61,7 +61,7 @@ module _ (now : Texts) (x : Name) (n : ℕ) (bound : List Bind) (free : held bou
       no_more None = tt
       no_more (Some d) = tt
 
-  one_variable : KeepsPatterns now (t.more (e.var x) t.end) n bound made [] (n + 1) (bind x (Numbered n) ∷ [])
+  pub one_variable : KeepsPatterns now (t.more (e.var x) t.end) n bound made [] (n + 1) (bind x (Numbered n) ∷ [])
   one_variable = record {
     drawn = omega arith;
     below = below_push n bound x below;
@@ -73,10 +73,10 @@ module _ (now : Texts) (x : Name) (n : ℕ) (bound : List Bind) (free : held bou
 
 -- ---- the example
 
-always : IsGuard table [] m.always
+pub always : IsGuard table [] m.always
 always = true_guard table e.true_name (record { within = omega arith; is = refl })
 
-is_fail : IsNameOf table e.match_fail_name (codes "match_fail")
+pub is_fail : IsNameOf table e.match_fail_name (codes "match_fail")
 is_fail = record { within = omega arith; is = refl }
 
 no_match : FailsValue table (Numbered 5) badmatch (m.core_fails e.badmatch_name 5 6)
@@ -85,7 +85,7 @@ no_match = badmatch_step_fails table e.match_fail_name e.badmatch_name (Numbered
 no_clause : FailsFunction table (Numbered 7 ∷ []) (m.core_fails e.function_clause_name 7 8)
 no_clause = function_step_fails table e.match_fail_name e.function_clause_name (Numbered 7 ∷ []) is_fail (record { within = omega arith; is = refl }) (Numbered 8)
 
-abbrev inside : List Bind
+abbrev pub inside : List Bind
 inside = bind e.x_name (Numbered 1) ∷ []
 
 -- g:h(X), in a variable

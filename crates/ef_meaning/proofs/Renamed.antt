@@ -23,7 +23,7 @@ same_number n = grind (arith, nat_tests)
 
 -- ---- names of one list behind another
 
-held_front : (xs ys : List Bind) (n : Name) (v : CoreVar) → held xs n ≡ Some v → held (xs ++ ys) n ≡ Some v
+pub held_front : (xs ys : List Bind) (n : Name) (v : CoreVar) → held xs n ≡ Some v → held (xs ++ ys) n ≡ Some v
 held_front [] ys n v e = absurd cc
 held_front (x ∷ xs) ys n v e = by (x.name.index == n.index) (λ h. held_front xs ys n v h) e
   where
@@ -31,7 +31,7 @@ held_front (x ∷ xs) ys n v e = by (x.name.index == n.index) (λ h. held_front 
     by true k h = h
     by false k h = k h
 
-held_behind : (xs ys : List Bind) (n : Name) → held xs n ≡ None → held (xs ++ ys) n ≡ held ys n
+pub held_behind : (xs ys : List Bind) (n : Name) → held xs n ≡ None → held (xs ++ ys) n ≡ held ys n
 held_behind [] ys n e = refl
 held_behind (x ∷ xs) ys n e = by (x.name.index == n.index) (λ h. held_behind xs ys n h) e
   where
@@ -61,7 +61,7 @@ bound_from n (x ∷ xs) (v ∷ vs) d len =
     let rest = bound_from (n + 1) xs vs ((Numbered n, v) ∷ d) (omega arith) in
     (rest.0, rest.1, agree_trans n (n + 1) d ((Numbered n, v) ∷ d) rest.0 (omega arith) (agree_more n n d d v (omega arith) (agree_refl n d)) rest.2)
 
-bound_agree : (n : ℕ) (xs : List Name) (vs : List Value) (d e : Vars) → core.bind (params_from n xs) vs d ≡ Some e → Agree n d e
+pub bound_agree : (n : ℕ) (xs : List Name) (vs : List Value) (d e : Vars) → core.bind (params_from n xs) vs d ≡ Some e → Agree n d e
 bound_agree n [] [] d e p = let same : d ≡ e = cc in subst (Agree n d) same (agree_refl n d)
 bound_agree n [] (v ∷ vs) d e p = absurd cc
 bound_agree n (x ∷ xs) [] d e p = absurd cc

@@ -7,7 +7,7 @@ use Rattle.ef_meaning.specs.Source as source
 use Rattle.ef_meaning.specs.Core as core
 use Rattle.ef_meaning.specs.Runs.{shown, start}
 use Rattle.ef_meaning.specs.Examples.{table, endless, core_endless}
-use Rattle.ef_meaning.specs.Rows.{MatchRows, Rows, on}
+use Rattle.ef_meaning.specs.Rows.{CaseRows, MatchRows, Rows, on}
 
 abbrev w : source.Module
 w = source.module_of table endless
@@ -57,4 +57,17 @@ match_rows_hold = record {
   other_twice = (refl, refl);
   no_tuple = (refl, refl);
   called_back = (refl, refl);
+}
+
+pub case_rows_hold : CaseRows
+case_rows_hold = record {
+  bound_by_pattern = (refl, refl);
+  bound_by_body = (refl, refl);
+  second_clause = (refl, refl);
+  no_clause = (refl, refl);
+  inner_name = (refl, refl);
+  outer_name = (refl, refl);
+  compared_equal = (refl, refl);
+  compared_other = (refl, refl);
+  evaluated_once = (refl, refl);
 }

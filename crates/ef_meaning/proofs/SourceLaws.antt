@@ -2,9 +2,9 @@
 use Rattle.std.proofs.Common.{ℕ, zero, suc, ◌≤◌, codes, List, [], ◌∷◌, Option, Some, None, refl, arith}
 use Rattle.ef_base.specs.Texts.{text}
 use Rattle.ef_meaning.specs.Lookup.{find}
-use Rattle.ef_forms.specs.Tree.{Tree, Shape, Trees, Guards, Clauses, tree, int, atom, var, any, list, list_to, tuple, matching, call, remote, end, more, no_guard, or_guard, no_clauses, clause, count}
+use Rattle.ef_forms.specs.Tree.{Tree, Shape, Trees, Guards, Clauses, tree, int, atom, var, any, list, list_to, tuple, matching, call, remote, case_of, end, more, no_guard, or_guard, no_clauses, clause, count}
 use Rattle.ef_meaning.specs.Value.{Value, Atom}
-use Rattle.ef_meaning.specs.Exception.{Error, function_clause}
+use Rattle.ef_meaning.specs.Exception.{Error, function_clause, case_clause}
 use Rattle.ef_meaning.specs.End.{End, Raises}
 use Rattle.ef_meaning.specs.Called.{apply}
 use Rattle.ef_meaning.specs.Keeps.{Ahead, Extends}
@@ -69,6 +69,9 @@ module _ (w : Module) where
         then_ahead _ (eval_all w es ls h.1 t) _ (all_ahead es ls h.1 t g) (λ a u. beside_ahead a.1 _ u (apply_ahead (side w) ls (side_grows w ls g) h.0 a.0 u)))
     shape_ahead (remote m f es) ls b s g = then_ahead _ (eval w m ls b s) _ (eval_ahead m ls b s g) (λ h t. then_ahead _ (eval w f ls h.1 t) _ (eval_ahead f ls h.1 t g) (λ k u.
         then_ahead _ (eval_all w es ls k.1 u) _ (all_ahead es ls k.1 u g) (λ a x. beside_ahead a.1 _ x (remote_ahead (side w) ls h.0 k.0 a.0 x (side_grows w ls g)))))
+    shape_ahead (case_of e cs) ls b s g = then_ahead _ (eval w e ls b s) _ (eval_ahead e ls b s g) (λ a t.
+        then_ahead _ (pick w cs (a.0 ∷ []) ls a.1 (λ u. u) (λ u. Raises Error (case_clause a.0) u) t) _
+        (pick_ahead cs (a.0 ∷ []) ls a.1 (λ u. u) (λ u. Raises Error (case_clause a.0) u) t g (λ u. begins_refl u.outside.events) (λ u. begins_refl u.outside.events)) (λ r u. begins_refl u.outside.events))
 
     target_ahead : (e : Tree) (arity : ℕ) (ls : Levels) (b : Bindings) (s : Source) → Grow ls → Ahead s.outside.events (eval_target w e arity ls b s)
     target_ahead (tree p (atom n)) arity ls b s g = found_ahead (find (text w.texts n) arity w.functions) (text w.texts n) arity b s
@@ -78,16 +81,20 @@ module _ (w : Module) where
     all_ahead end ls b s g = begins_refl s.outside.events
     all_ahead (more e es) ls b s g = then_ahead _ (eval w e ls b s) _ (eval_ahead e ls b s g) (λ a t. then_ahead _ (eval_all w es ls a.1 t) _ (all_ahead es ls a.1 t g) (λ c u. begins_refl u.outside.events))
 
-  pub body_ahead : (es : Trees) (ls : Levels) (b : Bindings) (s : Source) → Grow ls → Ahead s.outside.events (eval_body w es ls b s)
-  body_ahead end ls b s g = tt
-  body_ahead (more e end) ls b s g = eval_ahead e ls b s g
-  body_ahead (more e (more d es)) ls b s g = then_ahead _ (eval w e ls b s) _ (eval_ahead e ls b s g) (λ a t. body_ahead (more d es) ls a.1 t g)
+    pub body_ahead : (es : Trees) (ls : Levels) (b : Bindings) (s : Source) → Grow ls → Ahead s.outside.events (eval_body w es ls b s)
+    body_ahead end ls b s g = tt
+    body_ahead (more e end) ls b s g = eval_ahead e ls b s g
+    body_ahead (more e (more d es)) ls b s g = then_ahead _ (eval w e ls b s) _ (eval_ahead e ls b s g) (λ a t. body_ahead (more d es) ls a.1 t g)
 
-  pub pick_ahead : (cs : Clauses) (vs : List Value) (ls : Levels) (b : Bindings) (took : Source → Source) (others : Source → Answer) (s : Source) → Grow ls → OnlyAdds took → ((t : Source) → Ahead t.outside.events (others t)) →
-      Ahead s.outside.events (pick w cs vs ls b took others s)
-  pick_ahead no_clauses vs ls b took others s g p q = q s
-  pick_ahead (clause r ps h body cs) vs ls b took others s g p q = chosen_ahead (match_all w.texts ps vs b) s _ _
-      (λ c. guarded_ahead h (eval_body w body ls c (took s)) s (ahead_trans _ _ (eval_body w body ls c (took s)) (p s) (body_ahead body ls c (took s) g))) (pick_ahead cs vs ls b took others s g p q)
+    pub pick_ahead : (cs : Clauses) (vs : List Value) (ls : Levels) (b : Bindings) (took : Source → Source) (others : Source → Answer) (s : Source) → Grow ls → OnlyAdds took → ((t : Source) → Ahead t.outside.events (others t)) →
+        Ahead s.outside.events (pick w cs vs ls b took others s)
+    pick_ahead no_clauses vs ls b took others s g p q = q s
+    pick_ahead (clause r ps h body cs) vs ls b took others s g p q = chosen_ahead (match_all w.texts ps vs b) s _ _
+        (λ c. guarded_ahead h (eval_body w body ls c (took s)) s (ahead_trans _ _ (eval_body w body ls c (took s)) (p s) (body_ahead body ls c (took s) g))) (pick_ahead cs vs ls b took others s g p q)
+
+  -- the clauses of a `case`
+  pub case_ahead : (cs : Clauses) (v : Value) (ls : Levels) (b : Bindings) (s : Source) → Grow ls → Ahead s.outside.events (pick w cs (v ∷ []) ls b (λ u. u) (λ u. Raises Error (case_clause v) u) s)
+  case_ahead cs v ls b s g = pick_ahead cs (v ∷ []) ls b (λ u. u) (λ u. Raises Error (case_clause v) u) s g (λ t. begins_refl t.outside.events) (λ t. begins_refl t.outside.events)
 
   run_ahead : (ls : Levels) (f : Body) (vs : List Value) (s : Source) → Grow ls → Ahead s.outside.events (run_body w ls f vs s)
   run_ahead ls (by_clauses cs saved) vs s g = then_ahead _ (pick w cs vs ls saved (λ t. t) (λ t. Raises Error function_clause t) s) _ (pick_ahead cs vs ls saved (λ t. t) (λ t. Raises Error function_clause t) s g (λ t. begins_refl t.outside.events) (λ t. begins_refl t.outside.events)) (λ a t. begins_refl t.outside.events)
@@ -151,6 +158,10 @@ module _ (w : Module) where
         (λ a u. beside_extends a.1 _ _ (apply_extends (side w) ls ks (side_below w ls ks p g) (side_grows w ks g) h.0 a.0 u))
         (λ a u. beside_ahead a.1 _ u (apply_ahead (side w) ks (side_grows w ks g) h.0 a.0 u)))
         (λ h t. then_ahead _ (eval_all w es ks h.1 t) _ (all_ahead w es ks h.1 t g) (λ a u. beside_ahead a.1 _ u (apply_ahead (side w) ks (side_grows w ks g) h.0 a.0 u)))
+    shape_extends (case_of e cs) ls ks b s p g = then_extends (eval w e ls b s) (eval w e ks b s) _ _ (eval_extends e ls ks b s p g)
+        (λ a t. then_extends (pick w cs (a.0 ∷ []) ls a.1 (λ u. u) (λ u. Raises Error (case_clause a.0) u) t) (pick w cs (a.0 ∷ []) ks a.1 (λ u. u) (λ u. Raises Error (case_clause a.0) u) t) _ _
+        (pick_extends cs (a.0 ∷ []) ls ks a.1 (λ u. u) (λ u. Raises Error (case_clause a.0) u) (λ u. Raises Error (case_clause a.0) u) t p g (λ u. refl)) (λ r u. refl) (λ r u. begins_refl u.outside.events))
+        (λ a t. then_ahead _ (pick w cs (a.0 ∷ []) ks a.1 (λ u. u) (λ u. Raises Error (case_clause a.0) u) t) _ (case_ahead w cs a.0 ks a.1 t g) (λ r u. begins_refl u.outside.events))
     shape_extends (remote m f es) ls ks b s p g =
         let last = λ (h i : Value × Bindings) (u : Source). then_ahead _ (eval_all w es ks i.1 u) _ (all_ahead w es ks i.1 u g) (λ a x. beside_ahead a.1 _ x (remote_ahead (side w) ks h.0 i.0 a.0 x (side_grows w ks g))) in
         then_extends (eval w m ls b s) (eval w m ks b s) _ _ (eval_extends m ls ks b s p g)
@@ -171,17 +182,17 @@ module _ (w : Module) where
         (λ a t. then_extends (eval_all w es ls a.1 t) (eval_all w es ks a.1 t) _ _ (all_extends es ls ks a.1 t p g) (λ c u. refl) (λ c u. begins_refl u.outside.events))
         (λ a t. then_ahead _ (eval_all w es ks a.1 t) _ (all_ahead w es ks a.1 t g) (λ c u. begins_refl u.outside.events))
 
-  body_extends : (es : Trees) (ls ks : Levels) (b : Bindings) (s : Source) → Below ls ks → Grow ks → Extends (eval_body w es ls b s) (eval_body w es ks b s)
-  body_extends end ls ks b s p g = refl
-  body_extends (more e end) ls ks b s p g = eval_extends e ls ks b s p g
-  body_extends (more e (more d es)) ls ks b s p g = then_extends (eval w e ls b s) (eval w e ks b s) _ _ (eval_extends e ls ks b s p g)
-      (λ a t. body_extends (more d es) ls ks a.1 t p g) (λ a t. body_ahead w (more d es) ks a.1 t g)
+    body_extends : (es : Trees) (ls ks : Levels) (b : Bindings) (s : Source) → Below ls ks → Grow ks → Extends (eval_body w es ls b s) (eval_body w es ks b s)
+    body_extends end ls ks b s p g = refl
+    body_extends (more e end) ls ks b s p g = eval_extends e ls ks b s p g
+    body_extends (more e (more d es)) ls ks b s p g = then_extends (eval w e ls b s) (eval w e ks b s) _ _ (eval_extends e ls ks b s p g)
+        (λ a t. body_extends (more d es) ls ks a.1 t p g) (λ a t. body_ahead w (more d es) ks a.1 t g)
 
-  pub pick_extends : (cs : Clauses) (vs : List Value) (ls ks : Levels) (b : Bindings) (took : Source → Source) (others rest : Source → Answer) (s : Source) → Below ls ks → Grow ks → ((t : Source) → Extends (others t) (rest t)) →
-      Extends (pick w cs vs ls b took others s) (pick w cs vs ks b took rest s)
-  pick_extends no_clauses vs ls ks b took others rest s p g q = q s
-  pick_extends (clause r ps h body cs) vs ls ks b took others rest s p g q = chosen_extends (match_all w.texts ps vs b) _ _ _ _
-      (λ c. guarded_extends h (eval_body w body ls c (took s)) (eval_body w body ks c (took s)) (body_extends body ls ks c (took s) p g)) (pick_extends cs vs ls ks b took others rest s p g q)
+    pub pick_extends : (cs : Clauses) (vs : List Value) (ls ks : Levels) (b : Bindings) (took : Source → Source) (others rest : Source → Answer) (s : Source) → Below ls ks → Grow ks → ((t : Source) → Extends (others t) (rest t)) →
+        Extends (pick w cs vs ls b took others s) (pick w cs vs ks b took rest s)
+    pick_extends no_clauses vs ls ks b took others rest s p g q = q s
+    pick_extends (clause r ps h body cs) vs ls ks b took others rest s p g q = chosen_extends (match_all w.texts ps vs b) _ _ _ _
+        (λ c. guarded_extends h (eval_body w body ls c (took s)) (eval_body w body ks c (took s)) (body_extends body ls ks c (took s) p g)) (pick_extends cs vs ls ks b took others rest s p g q)
 
   run_extends : (ls ks : Levels) (f : Body) (vs : List Value) (s : Source) → Below ls ks → Grow ks → Extends (run_body w ls f vs s) (run_body w ks f vs s)
   run_extends ls ks (by_clauses cs saved) vs s p g = then_extends _ _ _ _ (pick_extends cs vs ls ks saved (λ t. t) (λ t. Raises Error function_clause t) (λ t. Raises Error function_clause t) s p g (λ t. refl)) (λ a t. refl) (λ a t. begins_refl t.outside.events)

@@ -1,12 +1,13 @@
 -- What the lowering of functions and of matches makes of clauses.
-use Rattle.std.specs.Prelude.{◌≡◌, List, [], ◌∷◌, ◌++◌, map, Some}
+use Rattle.std.specs.Prelude.{◌≡◌, ◌+◌, ℕ, List, [], ◌∷◌, ◌++◌, map, Some}
 use Rattle.ef_base.specs.declared.name.Name.{Name}
 use Rattle.ef_base.specs.Texts.{Texts, Extends}
 use Rattle.ef_core.specs.declared.env.Bind.{Bind}
 use Rattle.ef_core.specs.declared.literal.CoreVar.{CoreVar}
+use Rattle.ef_core.specs.declared.literal.CoreVar.TheVariants.{Numbered}
 use Rattle.ef_core.specs.Env.{held}
 use Rattle.ef_core.specs.Plain as plain
-use Rattle.ef_core.specs.Plain.{ClauseTree}
+use Rattle.ef_core.specs.Plain.{ClauseTree, StepTree}
 use Rattle.ef_core.specs.Tree.{CoreTree, PatTrees, var, value_list, case_of, end, pat_var}
 use Rattle.ef_forms.specs.Tree.{Clauses}
 use Rattle.ef_meaning.specs.Value.{Value}
@@ -14,6 +15,7 @@ use Rattle.ef_meaning.specs.Exception.{Error, function_clause}
 use Rattle.ef_meaning.specs.End.{Raises}
 use Rattle.ef_meaning.specs.Core as core
 use Rattle.ef_meaning.specs.Core.{CoreModule, Vars, Funs, Target, value_at}
+use Rattle.ef_meaning.specs.Lowers.{params_from}
 use Rattle.ef_meaning.specs.Patterns.{KeepsPicks}
 
 -- ---- several values at once
@@ -68,7 +70,23 @@ abbrev pub AreHeld : List Bind → List Bind → Type 0
 AreHeld env [] = Unit {0}
 AreHeld env (b ∷ bs) = (held env b.name ≡ Some b.var) × AreHeld env bs
 
+-- the same, where the names and the variables are two lists
+abbrev pub HoldsNames : List Bind → List Name → List CoreVar → Type 0
+HoldsNames env [] [] = Unit {0}
+HoldsNames env (x ∷ xs) (y ∷ ys) = (held env x ≡ Some y) × HoldsNames env xs ys
+HoldsNames env _ _ = ⊥
+
 -- the values of the variables that the patterns bind; where they do not match, the last clause
 abbrev pub match_case : CoreTree → PatTrees → CoreTree → List Bind → CoreTree → CoreVar → CoreTree → CoreTree
 match_case value pats guard binds always z fails =
     case_of value (plain.clauses (record { pats = pats; guard = guard; body = together (map (λ (b : Bind). var b.var) binds) } ∷ last_clause always (z ∷ []) fails ∷ []))
+
+-- ---- `case`
+
+-- the clauses, over a value, and behind them the last one
+abbrev pub whole_case : CoreTree → List ClauseTree → CoreTree → CoreVar → CoreTree → CoreTree
+whole_case value made always z fails = case_of value (plain.clauses (made ++ last_clause always (z ∷ []) fails ∷ []))
+
+-- the step of a `case`: its variables take the value and those of the exported names, from a number on
+abbrev pub case_step : ℕ → List Name → CoreTree → List ClauseTree → CoreTree → CoreVar → CoreTree → StepTree
+case_step n sure value made always z fails = record { vars = Numbered n ∷ params_from (n + 1) sure; value = whole_case value made always z fails }

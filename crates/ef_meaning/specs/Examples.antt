@@ -17,7 +17,8 @@ use Rattle.ef_forms.specs.Plain.{trees}
 abbrev pub table : Texts
 table = codes "m" ∷ codes "f" ∷ codes "k" ∷ codes "g" ∷ codes "h" ∷ codes "i" ∷ codes "j" ∷ codes "a" ∷ codes "l" ∷ codes "X" ∷ codes "Y"
     ∷ codes "erlang" ∷ codes "get_module_info" ∷ codes "module_info" ∷ codes "Z" ∷ codes "T" ∷ codes "A" ∷ codes "B" ∷ codes "z" ∷ codes "true" ∷ codes "=:="
-    ∷ codes "match_fail" ∷ codes "function_clause" ∷ codes "badmatch" ∷ []
+    ∷ codes "match_fail" ∷ codes "function_clause" ∷ codes "badmatch"
+    ∷ codes "case_clause" ∷ codes "ok" ∷ codes "error" ∷ codes "same" ∷ codes "b" ∷ codes "E" ∷ []
 
 abbrev pub numbered : ℕ → Name
 numbered n = record { index = n }
@@ -93,6 +94,24 @@ function_clause_name = numbered 22
 
 abbrev pub badmatch_name : Name
 badmatch_name = numbered 23
+
+abbrev pub case_clause_name : Name
+case_clause_name = numbered 24
+
+abbrev pub ok_name : Name
+ok_name = numbered 25
+
+abbrev pub error_name : Name
+error_name = numbered 26
+
+abbrev pub same_name : Name
+same_name = numbered 27
+
+abbrev pub little_b_name : Name
+little_b_name = numbered 28
+
+abbrev pub big_e_name : Name
+big_e_name = numbered 29
 
 -- ---- the source, whose modules export f/1
 

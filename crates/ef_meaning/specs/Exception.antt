@@ -15,6 +15,10 @@ function_clause = Atom (codes "function_clause")
 abbrev pub badmatch : Value → Value
 badmatch v = pair_value (Atom (codes "badmatch")) v
 
+-- no clause of a `case` matches
+abbrev pub case_clause : Value → Value
+case_clause v = pair_value (Atom (codes "case_clause")) v
+
 -- the module or the function of a remote call is no atom
 abbrev pub badarg : Value
 badarg = Atom (codes "badarg")

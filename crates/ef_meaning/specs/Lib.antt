@@ -21,4 +21,5 @@ pub mod Named
 pub mod Bound
 pub mod Examples
 pub mod Matching
+pub mod Branching
 pub mod Rows

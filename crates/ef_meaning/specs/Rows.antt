@@ -2,13 +2,14 @@
 use Rattle.std.specs.Prelude.{◌≡◌, ℕ, suc, codes, pos, List, [], ◌∷◌}
 use Rattle.ef_forms.specs.Tree.{ModuleTree}
 use Rattle.ef_core.specs.Tree.{CoreModuleTree}
-use Rattle.ef_meaning.specs.Value.{Value, Integer, Atom, Local, Made, list_value, pair_value}
-use Rattle.ef_meaning.specs.Exception.{Error, Exit, function_clause, badmatch}
+use Rattle.ef_meaning.specs.Value.{Value, Integer, Atom, Tuple, Local, Made, values_of, list_value, pair_value}
+use Rattle.ef_meaning.specs.Exception.{Error, Exit, function_clause, badmatch, case_clause}
 use Rattle.ef_meaning.specs.Outside.{Item, Answer, Raise, Arrive, TimeUp, CallBack, Returned, Excepted, Event, Called, GaveBack}
 use Rattle.ef_meaning.specs.End.{End, Gives, Raises, Waits, More}
 use Rattle.ef_meaning.specs.Runs.{Run, Shown, shown, source_run, core_run, KeepsMeaning}
 use Rattle.ef_meaning.specs.Examples.{table, identity, core_identity, two_calls, core_two_calls, dropped_value, core_dropped_value, endless, core_endless, ordered, core_ordered, outside_call, core_outside_call}
 use Rattle.ef_meaning.specs.Matching.{first_pair, across, taken_apart, named_value, core_named_value, same_twice, core_same_twice, bound_before, core_bound_before, bound_beside}
+use Rattle.ef_meaning.specs.Branching.{unwrapped, core_unwrapped, tagged_value, core_tagged_value, nested_case, core_nested_case, bound_inside, core_bound_inside, same_answer, core_same_answer}
 
 abbrev number : ℕ → Value
 number n = Integer (pos n)
@@ -94,9 +95,26 @@ pub record MatchRows : Type 0 where
   pub called_back : BothShow outside_call core_outside_call (on (Atom (codes "a")) (CallBack (Local (codes "f") 1) (number 2 ∷ []) ∷ Answer (Atom (codes "ok")) ∷ Answer (Atom (codes "done")) ∷ [])) 5
       (Gives (Atom (codes "done")) (seen (Called (codes "g") (codes "h") (Atom (codes "a") ∷ []) ∷ called_h 2 ∷ GaveBack (Returned (Atom (codes "ok"))) ∷ [])))
 
+pub record CaseRows : Type 0 where
+  -- a name that every clause binds is bound behind the case: by a pattern, or by a body
+  pub bound_by_pattern : BothShow unwrapped core_unwrapped (on (pair_value (Atom (codes "ok")) (number 3)) []) 5 (Gives (number 3) (seen []))
+  pub bound_by_body : BothShow unwrapped core_unwrapped (on (Atom (codes "a")) []) 5 (Gives (Atom (codes "a")) (seen []))
+  pub second_clause : BothShow tagged_value core_tagged_value (on (pair_value (Atom (codes "error")) (number 2)) []) 5 (Gives (number 2) (seen []))
+  -- where no clause matches
+  pub no_clause : BothShow tagged_value core_tagged_value (on (Atom (codes "b")) []) 5 (Raises Error (case_clause (Atom (codes "b"))) (seen []))
+  -- a case over a case: the names of the inner one are bound in the clauses of the outer one, and behind it
+  pub inner_name : BothShow nested_case core_nested_case (on (number 1) []) 5 (Gives (pair_value (Atom (codes "a")) (Atom (codes "a"))) (seen []))
+  pub outer_name : BothShow nested_case core_nested_case (on (number 5) []) 5 (Gives (pair_value (Atom (codes "b")) (number 0)) (seen []))
+  -- a name that is bound by a case before compares
+  pub compared_equal : BothShow bound_inside core_bound_inside (on (number 3) []) 5 (Gives (Atom (codes "a")) (seen []))
+  pub compared_other : BothShow bound_inside core_bound_inside (on (Tuple (values_of (number 3 ∷ []))) []) 5 (Gives (Atom (codes "b")) (seen []))
+  -- the value is evaluated once
+  pub evaluated_once : BothShow same_answer core_same_answer (on (Atom (codes "a")) (Answer (Atom (codes "a")) ∷ [])) 5 (Gives (Atom (codes "same")) (seen (Called (codes "g") (codes "h") (Atom (codes "a") ∷ []) ∷ [])))
+
 -- on every run the Core of these modules shows what their source does, and goes on where it does
 pub record CoreKeeps : Type 0 where
   pub answered : KeepsMeaning table two_calls core_two_calls
   pub dropped : KeepsMeaning table dropped_value core_dropped_value
   pub left_to_right : KeepsMeaning table ordered core_ordered
   pub named : KeepsMeaning table named_value core_named_value
+  pub tagged : KeepsMeaning table tagged_value core_tagged_value

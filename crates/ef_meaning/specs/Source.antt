@@ -1,10 +1,12 @@
 -- What an expression of the source means (Erlang Reference Manual, "Expressions" and "Function Declaration Syntax").
-use Rattle.std.specs.Prelude.{ℕ, zero, suc, ◌==◌, if◌then◌else◌, codes, List, [], ◌∷◌, ◌++◌, map, Option, Some, None}
+use Rattle.std.specs.Prelude.{ℕ, zero, suc, ◌==◌, if◌then◌else◌, codes, List, [], ◌∷◌, ◌++◌, map, filter, Option, Some, None}
 use Rattle.ef_base.specs.Texts.{Texts, text}
-use Rattle.ef_forms.specs.Tree.{Tree, Shape, Trees, Guards, Clauses, FunctionTree, ModuleTree, tree, int, atom, var, any, list, list_to, tuple, matching, call, remote, end, more, no_guard, or_guard, no_clauses, clause, count}
+use Rattle.ef_forms.specs.Tree.{Tree, Shape, Trees, Guards, Clauses, FunctionTree, ModuleTree, tree, int, atom, var, any, list, list_to, tuple, matching, call, remote, case_of, end, more, no_guard, or_guard, no_clauses, clause, count}
 use Rattle.ef_forms.specs.Built.{functions_in}
+use Rattle.ef_forms.specs.Ways.{NameSet}
+use Rattle.ef_forms.specs.Sure.{clauses_sure}
 use Rattle.ef_meaning.specs.Value.{Value, Integer, Atom, Tuple, Local, Made, values_of, list_value, list_onto}
-use Rattle.ef_meaning.specs.Exception.{Error, function_clause, badmatch}
+use Rattle.ef_meaning.specs.Exception.{Error, function_clause, badmatch, case_clause}
 use Rattle.ef_meaning.specs.Lookup.{FunctionKey, find, keys, nth}
 use Rattle.ef_meaning.specs.Outside.{State}
 use Rattle.ef_meaning.specs.End.{End, Gives, Raises, More, Wrong, and_then}
@@ -98,6 +100,10 @@ abbrev pub chosen : Option Bindings → (Bindings → Answer) → Answer → Ans
 chosen None body others = others
 chosen (Some b) body others = body b
 
+-- the bindings from before, and beside them names of a set, as they are bound inside
+abbrev pub kept : NameSet → Bindings → Bindings → Bindings
+kept set inside before = before ++ filter (λ b. set b.0.index) inside
+
 -- without a guard the body; guards are not built yet
 abbrev pub guarded : Guards → Answer → Answer
 guarded no_guard body = body
@@ -125,6 +131,9 @@ module _ (w : Module) where
     -- the module, the function, then the arguments
     eval_shape (remote m f es) ls b s = and_then (eval m ls b s) (λ g t. and_then (eval f ls g.1 t) (λ h u.
         and_then (eval_all es ls h.1 u) (λ a x. beside a.1 (called.remote (side w) ls g.0 h.0 a.0 x))))
+    -- the value, then the first clause that matches; the names that every clause binds are kept
+    eval_shape (case_of e cs) ls b s = and_then (eval e ls b s) (λ a t.
+        and_then (pick cs (a.0 ∷ []) ls a.1 (λ u. u) (λ u. Raises Error (case_clause a.0) u) t) (λ r u. Gives (r.0, kept (clauses_sure cs) r.1 a.1) u))
 
     -- what is called, with so many arguments
     pub eval_target : Tree → ℕ → Levels → Bindings → Source → Answer
@@ -135,17 +144,17 @@ module _ (w : Module) where
     eval_all end ls b s = Gives ([], b) s
     eval_all (more e es) ls b s = and_then (eval e ls b s) (λ a t. and_then (eval_all es ls a.1 t) (λ c u. Gives (a.0 ∷ c.0, c.1) u))
 
-  -- the value of a body is that of its last expression; no body is empty
-  abbrev pub eval_body : Trees → Levels → Bindings → Source → Answer
-  eval_body end ls b s = Wrong
-  eval_body (more e end) ls b s = eval e ls b s
-  eval_body (more e (more d es)) ls b s = and_then (eval e ls b s) (λ a t. eval_body (more d es) ls a.1 t)
+    -- the value of a body is that of its last expression; no body is empty
+    pub eval_body : Trees → Levels → Bindings → Source → Answer
+    eval_body end ls b s = Wrong
+    eval_body (more e end) ls b s = eval e ls b s
+    eval_body (more e (more d es)) ls b s = and_then (eval e ls b s) (λ a t. eval_body (more d es) ls a.1 t)
 
-  -- the first clause whose patterns match; `took` is what the choice does to the state, `others` what is done where none matches
-  abbrev pub pick : Clauses → List Value → Levels → Bindings → (Source → Source) → (Source → Answer) → Source → Answer
-  pick no_clauses vs ls b took others s = others s
-  pick (clause p ps g body cs) vs ls b took others s =
-      chosen (match_all w.texts ps vs b) (λ c. guarded g (eval_body body ls c (took s))) (pick cs vs ls b took others s)
+    -- the first clause whose patterns match; `took` is what the choice does to the state, `others` what is done where none matches
+    pub pick : Clauses → List Value → Levels → Bindings → (Source → Source) → (Source → Answer) → Source → Answer
+    pick no_clauses vs ls b took others s = others s
+    pick (clause p ps g body cs) vs ls b took others s =
+        chosen (match_all w.texts ps vs b) (λ c. guarded g (eval_body body ls c (took s))) (pick cs vs ls b took others s)
 
 -- ---- bodies of functions, and levels
 

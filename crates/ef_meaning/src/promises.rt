@@ -1,6 +1,6 @@
 // What is proved of the meanings. The functions do nothing: their contracts are the laws, and the examples.
 ghost use Rattle.ef_meaning.specs.Laws.{BoundsExtend, EventsGrow, ModulesKeep, SourceMeant, ValuesCompare, ValuesOrdered};
-ghost use Rattle.ef_meaning.specs.Rows.{CoreKeeps, MatchRows, Rows};
+ghost use Rattle.ef_meaning.specs.Rows.{CaseRows, CoreKeeps, MatchRows, Rows};
 
 /// The laws of both meanings, and of what it is to keep one.
 pub fn laws()
@@ -16,5 +16,6 @@ pub fn laws()
 pub fn rows()
     ensures shown { Rows }
     ensures matched { MatchRows }
+    ensures branched { CaseRows }
     ensures kept { CoreKeeps }
 {}

@@ -1,4 +1,4 @@
-use Rattle.ef_meaning.proofs.RowsHold.{match_rows_hold, rows_hold}
+use Rattle.ef_meaning.proofs.RowsHold.{case_rows_hold, match_rows_hold, rows_hold}
 use Rattle.ef_meaning.proofs.ExamplesKeep.{core_keeps}
 use Rattle.ef_meaning.proofs.promises.rows.Goals as goal
 
@@ -7,6 +7,9 @@ returns-clause-shown c = rows_hold
 
 pub returns-clause-matched : goal.returns-clause-matched
 returns-clause-matched c = match_rows_hold
+
+pub returns-clause-branched : goal.returns-clause-branched
+returns-clause-branched c = case_rows_hold
 
 pub returns-clause-kept : goal.returns-clause-kept
 returns-clause-kept c = core_keeps

@@ -1,5 +1,5 @@
 -- What trees are lowered to, one behind another.
-use Rattle.std.proofs.Common.{◌≡◌, ◌≤◌, ◌+◌, ◌||◌, ◌==◌, ℕ, inl, inr, false, List, [], ◌∷◌, ◌++◌, None, length, refl, sym, ap, ◌∙◌, subst, arith, append_assoc, append-nil}
+use Rattle.std.proofs.Common.{◌≡◌, ◌≤◌, ◌+◌, ◌||◌, ◌==◌, ℕ, inl, inr, false, List, [], ◌∷◌, ◌++◌, None, sym, ap, ◌∙◌, subst, arith, append_assoc, append-nil}
 use Rattle.ef_base.specs.declared.name.Name.{Name}
 use Rattle.ef_base.specs.declared.fault.Place.{Place}
 use Rattle.ef_base.specs.Texts.{Texts}
@@ -10,8 +10,6 @@ use Rattle.ef_core.specs.declared.literal.FName.{FName}
 use Rattle.ef_core.specs.Depth.{depth}
 use Rattle.ef_core.specs.Env.{bind, held}
 use Rattle.ef_core.specs.Everywhere.{Each}
-use Rattle.ef_core.specs.LetForm.{IsSimple}
-use Rattle.ef_core.specs.Normal.{IsNoRun}
 use Rattle.ef_core.specs.Plain as core
 use Rattle.ef_core.specs.Plain.{StepTree, lits}
 use Rattle.ef_core.specs.Scope.{AllInScope}
@@ -21,15 +19,15 @@ use Rattle.ef_core.specs.WellFormed.{AreSomeLits}
 use Rattle.ef_forms.specs.declared.tables.FunctionName.{FunctionName}
 use Rattle.ef_forms.specs.Depth.{all_depth}
 use Rattle.ef_forms.specs.Plain.{trees}
+use Rattle.ef_forms.specs.Sure.{all_sure, sure}
 use Rattle.ef_forms.specs.Tree as t
 use Rattle.ef_forms.specs.Tree.{Tree, tree}
-use Rattle.ef_forms.specs.Ways.{all_names, names}
 use Rattle.ef_forms.proofs.Depths.{some_depth}
 use Rattle.ef_meaning.specs.Lowers.{AreBelow}
 use Rattle.ef_meaning.proofs.Matches.{held_keeps}
 use Rattle.ef_meaning.proofs.Parts.{both_keep, nil_keeps, one_step, put_keeps}
 use Rattle.ef_meaning.proofs.Terms.{list_to_keeps, list_to_literal_keeps}
-use Rattle.ef_lower.specs.Lowers.{Adds, ArgumentForms, IsArgument, IsLoweredStep, Lowers, LowersAll, StandsFor}
+use Rattle.ef_lower.specs.Lowers.{Adds, Lowers, LowersAll, StandsFor}
 use Rattle.ef_lower.specs.Nodes.{JoinsTo, literal_values}
 use Rattle.ef_lower.specs.Ready.{IsReadableBind, bound_names}
 use Rattle.ef_lower.proofs.Forms.{argument_form, arguments_both, arguments_depth, arguments_lowered, each_both, form_as, made_form, nothing_form, one_single, put_form, simple, single, steps_wider}
@@ -37,7 +35,7 @@ use Rattle.ef_lower.proofs.Kept.{any_keeps, bound_keeps, tail_keeps}
 use Rattle.ef_lower.proofs.Made.{lits_deep, lits_hold, value_as}
 use Rattle.ef_lower.proofs.Scopes.{has_both}
 use Rattle.ef_lower.proofs.Several.{simple_no_run}
-use Rattle.ef_lower.proofs.Sizes.{bound_both, depth_both, names_both, or_false, or_swap, weight_both}
+use Rattle.ef_lower.proofs.Sizes.{bound_both, depth_both, or_assoc, or_false, sure_both, weight_both}
 
 -- ---- steps behind steps
 
@@ -119,7 +117,7 @@ module _ (texts : Texts) (defined : List FunctionName) where
         let both = both_lowers one two in
         let argument = both.forms.arguments.0 in
         value_as texts defined same (record {
-          form = made_form texts defined (tree p (t.list_to (trees []) e)) x both.forms (omega arith) (omega arith) (λ y. sym (or_false (names e y)))
+          form = made_form texts defined (tree p (t.list_to (trees []) e)) x both.forms (omega arith) (omega arith) (λ y. sym (or_false (sure e y)))
               argument.lowered (simple_no_run x argument.simple) (let deep : depth x ≤ all_depth (trees (e ∷ [])) = argument.shallow in omega arith) (λ xs fs functions is. is.0);
           keeps = tail_keeps texts p e (held_keeps texts e n env0 (a ++ b) k env2 x both.keeps);
         })
@@ -132,7 +130,7 @@ module _ (texts : Texts) (defined : List FunctionName) where
         let deeps = depth_both es (e ∷ []) in
         value_as texts defined made.4 (record {
           form = made_form texts defined (tree p (t.list_to (trees es) e)) (c.lit (c.lit_list_to (lits made.0) made.1)) both.forms (omega arith) (omega arith)
-              (λ y. ap (λ z. all_names (trees es) y || z) (sym (or_false (names e y))) ∙ sym (names_both es (e ∷ []) y))
+              (λ y. ap (λ z. all_sure (trees es) y || z) (sym (or_false (sure e y))) ∙ sym (sure_both es (e ∷ []) y))
               ((tt, ((tt, (tt, tt)), (tt, tt, tt))), ((tt, ((tt, (some_literals w ws made.0 made.2, tt)), tt)), lits_hold texts (all_depth (trees es)) made.0 first.forms.arguments, last.forms.arguments.0.lowered.1)) tt
               (let front = lits_deep texts (all_depth (trees es)) made.0 first.forms.arguments in let back = last.forms.arguments.0.shallow in omega arith) (λ xs fs functions is. tt);
           keeps = list_to_literal_keeps texts p es e n env0 a m env1 b k env2 made.0 made.1 first.keeps last.keeps;
@@ -145,7 +143,7 @@ module _ (texts : Texts) (defined : List FunctionName) where
         let argument = two.forms.arguments.0 in
         value_as texts defined made.1 (record {
           form = made_form texts defined (tree p (t.list_to (trees es) e)) (c.list_to (core.trees (w ∷ ws)) x) both.forms (omega arith) (omega arith)
-              (λ y. ap (λ z. all_names (trees es) y || z) (sym (or_false (names e y))) ∙ sym (names_both es (e ∷ []) y)) (
+              (λ y. ap (λ z. all_sure (trees es) y || z) (sym (or_false (sure e y))) ∙ sym (sure_both es (e ∷ []) y)) (
                 ((simple texts levels (w ∷ ws) one.forms.arguments, argument.simple), ((made.0, ((tt, single texts levels (w ∷ ws) one.forms.arguments, one_single texts levels x argument.simple), tt)), (tt, tt, tt))),
                 arguments_lowered texts levels (w ∷ ws) one.forms.arguments,
                 argument.lowered,
@@ -160,7 +158,7 @@ module _ (texts : Texts) (defined : List FunctionName) where
 
   pub any_lowers : (q r : Place) {e : Tree} {n m : ℕ} {env0 env1 : List Bind} {a : List StepTree} {v : CoreTree} → Lowers texts defined e n env0 a m env1 v → Lowers texts defined (tree q (t.matching (tree r t.any) e)) n env0 a m env1 v
   any_lowers q r {e} one = record {
-    form = form_as texts defined e (tree q (t.matching (tree r t.any) e)) one.form (omega arith) (omega arith) (λ y. refl);
+    form = form_as texts defined e (tree q (t.matching (tree r t.any) e)) one.form (omega arith) (omega arith) (λ y. or_false (sure e y));
     keeps = any_keeps texts q r e one.keeps;
   }
 
@@ -177,10 +175,10 @@ module _ (texts : Texts) (defined : List FunctionName) where
             named = λ z.
                 bound_both env1 (bind x y ∷ []) z
                 ∙ ap (λ b. b || (x.index == z || false)) (one.forms.names.named z)
-                ∙ ap (λ b. bound_names env0 z || b || (x.index == z || false)) (or_false (names e z))
-                ∙ ap (λ b. bound_names env0 z || names e z || b) (or_false (x.index == z))
-                ∙ or_swap (bound_names env0 z) (names e z) (x.index == z)
-                ∙ ap (λ b. bound_names env0 z || b) (sym (or_false (x.index == z || names e z)));
+                ∙ ap (λ b. bound_names env0 z || b || (x.index == z || false)) (or_false (sure e z))
+                ∙ ap (λ b. bound_names env0 z || sure e z || b) (or_false (x.index == z))
+                ∙ or_assoc (bound_names env0 z) (sure e z) (x.index == z)
+                ∙ ap (λ b. bound_names env0 z || b) (sym (or_false (sure e z || x.index == z)));
             readable = each_both (IsReadableBind texts) env1 (bind x y ∷ []) one.forms.names.readable (argument.lowered.1.1.0, tt);
           };
           drawn = one.forms.drawn;

@@ -1,19 +1,16 @@
--- Names that are bound: after a tree no others are bound than before or in it, and where more are, there are no more faults.
-use Rattle.std.proofs.Common.{◌≡◌, ℕ, Bool, true, false, ◌||◌, ◌==◌, ◌⊎◌, inl, inr, List, [], ◌∷◌, ◌++◌, map, cond, Some, None, refl, sym, ap, ◌∙◌, subst, eqb-true}
-use Rattle.std.specs.List.{flat_map, list_any}
+-- Where more names are bound there are no more faults.
+use Rattle.std.proofs.Common.{◌≡◌, ℕ, Bool, true, false, ◌||◌, ◌⊎◌, inl, inr, List, [], ◌∷◌, ◌++◌, if◌then◌else◌, refl, sym, ◌∙◌}
+use Rattle.std.specs.List.{flat_map}
 use Rattle.ef_base.specs.declared.name.Name.{Name}
 use Rattle.ef_base.specs.declared.fault.Place.{Place}
 use Rattle.ef_base.specs.Texts.{Texts}
-use Rattle.ef_forms.specs.Tree.{Tree, Shape, Trees, tree, int, atom, var, any, list, list_to, tuple, matching, call, remote, end, more}
-use Rattle.ef_forms.specs.Ways.{NameSet, union, bind, before, pairs, beside, names, shape_names, all_names, ways, shape_ways, side_by_side, on_some, unbound, use_faults, faults, shape_faults, all_faults, body_faults}
-
--- the name is in one of these sets
-abbrev pub IsIn : ℕ → List NameSet → Type 0
-IsIn y sets = list_any (λ s. s y) sets ≡ true
-
--- and so in this set
-abbrev pub AreWithin : List NameSet → NameSet → Type 0
-AreWithin sets t = (y : ℕ) → IsIn y sets → t y ≡ true
+use Rattle.ef_forms.specs.Sure.{sure}
+use Rattle.ef_forms.specs.Tree.{Tree, Trees, Clauses, tree, int, atom, var, any, list, list_to, tuple, matching, call, remote, case_of, end, more, no_clauses, clause}
+use Rattle.ef_forms.specs.Ways.{NameSet, Way, union, bind, all_names, ways, on_some, on_all, unbound, unsafe, use_faults, name_faults, pattern_faults, patterns_faults, pattern_clauses_faults, faults, all_faults, body_faults, clauses_faults}
+use Rattle.ef_forms.proofs.Bools.{and_true, or_false}
+use Rattle.ef_forms.proofs.Grows.{grows_ways}
+use Rattle.ef_forms.proofs.Growth.{given, Grows, grows_bind, after_given, after_some, after_all}
+use Rattle.ef_forms.proofs.Within.{sure_follows, within_same}
 
 pub either : (a b : Bool) → (a || b) ≡ true → (a ≡ true) ⊎ (b ≡ true)
 either true b here = inl refl
@@ -34,183 +31,147 @@ pub nothing_right : {A : Type 0} (xs ys : List A) → xs ++ ys ≡ [] → ys ≡
 nothing_right [] ys none = none
 nothing_right (x ∷ xs) ys none = absurd (cc)
 
-nothing_both : {A : Type 0} (xs ys : List A) → xs ≡ [] → ys ≡ [] → xs ++ ys ≡ []
-nothing_both xs ys left right = ap (λ l. l ++ ys) left ∙ right
+-- ---- ways that are safer than others
 
--- ---- which sets come out of ways
+-- what is bound on every way of b is so on every way of a, and what is bound on some way of a is so on every one, or on
+-- some way of b
+pub record Safer (a b : List NameSet) : Type 0 where
+  pub here : given a ≡ true
+  pub there : given b ≡ true
+  pub all : (x : Name) → on_all x b ≡ true → on_all x a ≡ true
+  pub some : (x : Name) → on_some x a ≡ true → (on_all x a ≡ true) ⊎ (on_some x b ≡ true)
 
-in_both : (y : ℕ) (a b : List NameSet) → IsIn y (a ++ b) → IsIn y a ⊎ IsIn y b
-in_both y [] b here = inr here
-in_both y (s ∷ a) b here =
-    elim (either (s y) (list_any (λ t. t y) (a ++ b)) here) [
-      | inl first ↦ inl (from_left (s y) (list_any (λ t. t y) a) first)
-      | inr rest ↦ elim (in_both y a b rest) [
-        | inl left ↦ inl (from_right (s y) (list_any (λ t. t y) a) left)
-        | inr right ↦ inr right
+pub safer_same : (s : NameSet) → Safer (s ∷ []) (s ∷ [])
+safer_same s = record { here = refl; there = refl; all = λ x k. k; some = λ x k. inr k }
+
+-- more names
+pub safer_more : (s t : NameSet) → ((y : ℕ) → s y ≡ true → t y ≡ true) → Safer (t ∷ []) (s ∷ [])
+safer_more s t within = record {
+  here = refl;
+  there = refl;
+  all = λ x k. and_true (t x.index) ∙ within x.index (sym (and_true (s x.index)) ∙ k);
+  some = λ x k. inl (and_true (t x.index) ∙ sym (or_false (t x.index)) ∙ k);
+}
+
+-- what follows stays safer
+module _ (f : Way) (m M : NameSet) (grows : Grows f m M) (a b : List NameSet) (w : Safer a b) where
+  some_after : (x : Name) → (on_some x a ≡ true) ⊎ (m x.index ≡ true) → (on_all x (flat_map f a) ≡ true) ⊎ (on_some x (flat_map f b) ≡ true)
+  some_after x (inl before) =
+      elim (w.some x before) [
+        | inl every ↦ inl (after_all f m M grows a w.here x ∙ from_left (on_all x a) (M x.index) every)
+        | inr there ↦ inr (after_some f m M grows b w.there x ∙ from_left (on_some x b) (m x.index) there)
       ]
-    ]
+  some_after x (inr mine) = inr (after_some f m M grows b w.there x ∙ from_right (on_some x b) (m x.index) mine)
 
-in_unions : (y : ℕ) (s : NameSet) (b : List NameSet) → IsIn y (map (union s) b) → (s y ≡ true) ⊎ IsIn y b
-in_unions y s [] here = absurd (cc)
-in_unions y s (t ∷ b) here =
-    elim (either (s y || t y) (list_any (λ u. u y) (map (union s) b)) here) [
-      | inl first ↦ elim (either (s y) (t y) first) [
-        | inl left ↦ inl left
-        | inr right ↦ inr (from_left (t y) (list_any (λ u. u y) b) right)
-      ]
-      | inr rest ↦ elim (in_unions y s b rest) [
-        | inl left ↦ inl left
-        | inr right ↦ inr (from_right (t y) (list_any (λ u. u y) b) right)
-      ]
-    ]
+  all_after : (x : Name) → (on_all x b ≡ true) ⊎ (M x.index ≡ true) → on_all x (flat_map f a) ≡ true
+  all_after x (inl before) = after_all f m M grows a w.here x ∙ from_left (on_all x a) (M x.index) (w.all x before)
+  all_after x (inr mine) = after_all f m M grows a w.here x ∙ from_right (on_all x a) (M x.index) mine
 
-in_pairs : (y : ℕ) (a b : List NameSet) → IsIn y (pairs a b) → IsIn y a ⊎ IsIn y b
-in_pairs y [] b here = absurd (cc)
-in_pairs y (s ∷ a) b here =
-    elim (in_both y (map (union s) b) (pairs a b) here) [
-      | inl first ↦ elim (in_unions y s b first) [
-        | inl left ↦ inl (from_left (s y) (list_any (λ t. t y) a) left)
-        | inr right ↦ inr right
-      ]
-      | inr rest ↦ elim (in_pairs y a b rest) [
-        | inl left ↦ inl (from_right (s y) (list_any (λ t. t y) a) left)
-        | inr right ↦ inr right
-      ]
-    ]
+  pub safer_after : Safer (flat_map f a) (flat_map f b)
+  safer_after = record {
+    here = after_given f m M grows a w.here;
+    there = after_given f m M grows b w.there;
+    all = λ x k. all_after x (either (on_all x b) (M x.index) (sym (after_all f m M grows b w.there x) ∙ k));
+    some = λ x k. some_after x (either (on_some x a) (m x.index) (sym (after_some f m M grows a w.here x) ∙ k));
+  }
 
-in_bound : (y : ℕ) (t : NameSet) (a : List NameSet) → IsIn y (flat_map (bind t) a) → IsIn y a ⊎ (t y ≡ true)
-in_bound y t [] here = absurd (cc)
-in_bound y t (s ∷ a) here =
-    elim (either (s y || t y) (list_any (λ u. u y) (flat_map (bind t) a)) here) [
-      | inl first ↦ elim (either (s y) (t y) first) [
-        | inl left ↦ inl (from_left (s y) (list_any (λ u. u y) a) left)
-        | inr right ↦ inr right
-      ]
-      | inr rest ↦ elim (in_bound y t a rest) [
-        | inl left ↦ inl (from_right (s y) (list_any (λ u. u y) a) left)
-        | inr right ↦ inr right
-      ]
-    ]
+-- the names that are bound for sure stand for all ways that follow
+sure_safer : (f : Way) (m M : NameSet) → Grows f m M → (s : NameSet) (sets : List NameSet) → Safer (s ∷ []) sets → Safer (union s M ∷ []) (flat_map f sets)
+sure_safer f m M grows s sets w =
+    let first = sure_follows f m M grows s (s ∷ []) (within_same (s ∷ []) refl) in
+    let rest = safer_after f m M grows (s ∷ []) sets w in
+    record {
+      here = refl;
+      there = rest.there;
+      all = λ x k. first.all x (rest.all x k);
+      some = λ x k. elim (rest.some x (first.some x k)) [ inl every ↦ inl (first.all x every) | inr there ↦ inr there ];
+    }
 
-pub in_one : (y : ℕ) (s : NameSet) → IsIn y (s ∷ []) → s y ≡ true
-in_one y s here = elim (either (s y) false here) [ inl is ↦ is | inr none ↦ absurd (cc) ]
+module _ (s : NameSet) (sets : List NameSet) (w : Safer (s ∷ []) sets) where
+  pub safer_ways : (e : Tree) → Safer (union s (sure e) ∷ []) (flat_map (ways e) sets)
+  safer_ways e = sure_safer _ _ _ (grows_ways e) s sets w
 
--- a name that is in a set after a tree was in the set before it, or the tree has it
-module _ (y : ℕ) where
-  first_or : (s : NameSet) (a b : Bool) → (s y ≡ true) ⊎ (a ≡ true) → (s y ≡ true) ⊎ ((a || b) ≡ true)
-  first_or s a b (inl before) = inl before
-  first_or s a b (inr mine) = inr (from_left a b mine)
+  pub safer_bind : (t : NameSet) → Safer (union s t ∷ []) (flat_map (bind t) sets)
+  safer_bind t = sure_safer _ _ _ (grows_bind t) s sets w
 
-  second_or : (s : NameSet) (a b : Bool) → (s y ≡ true) ⊎ (b ≡ true) → (s y ≡ true) ⊎ ((a || b) ≡ true)
-  second_or s a b (inl before) = inl before
-  second_or s a b (inr mine) = inr (from_right a b mine)
+-- ---- no more faults
+
+both_none : {A : Type 0} (a b c d : List A) → (a ≡ [] → c ≡ []) → (b ≡ [] → d ≡ []) → a ++ b ≡ [] → c ++ d ≡ []
+both_none a b c d p q h = rw (p (nothing_left a b h), q (nothing_right a b h)) refl
+
+bound_use : {A : Type 0} (x y : A) (every some : Bool) → (if every then [] else (if some then (x ∷ []) else (y ∷ []))) ≡ [] → every ≡ true
+bound_use x y true some k = refl
+bound_use x y false true k = absurd (cc)
+bound_use x y false false k = absurd (cc)
+
+safe_name : {A : Type 0} (x : A) (every some every' some' : Bool) → (every ≡ true → every' ≡ true) → (some' ≡ true → (every' ≡ true) ⊎ (some ≡ true)) →
+    (if every then [] else (if some then (x ∷ []) else [])) ≡ [] → (if every' then [] else (if some' then (x ∷ []) else [])) ≡ []
+safe_name x every some true some' h k none = refl
+safe_name x every some false false h k none = refl
+safe_name x every some false true h k none = elim (k refl) [ inl is ↦ absurd (cc) | inr is ↦ by every some is h none ]
+  where
+    by : (every some : Bool) → some ≡ true → (every ≡ true → false ≡ true) → (if every then [] else (if some then (x ∷ []) else [])) ≡ [] → x ∷ [] ≡ []
+    by true some is h none = let wrong = h refl in absurd (cc)
+    by false true is h none = none
+    by false false is h none = absurd (cc)
+
+module _ (all : Texts) where
+  safer_uses : (p : Place) (n : Name) (a b : List NameSet) → Safer a b → use_faults all p n b ≡ [] → use_faults all p n a ≡ []
+  safer_uses p n a b w h = rw (w.all n (bound_use (unsafe all p n) (unbound all p n) (on_all n b) (on_some n b) h)) refl
+
+  safer_names : (p : Place) (n : Name) (a b : List NameSet) → Safer a b → name_faults all p n b ≡ [] → name_faults all p n a ≡ []
+  safer_names p n a b w h = safe_name (unsafe all p n) (on_all n b) (on_some n b) (on_all n a) (on_some n a) (w.all n) (w.some n) h
 
   mutual
-    after_tree : (e : Tree) (s : NameSet) → IsIn y (ways e s) → (s y ≡ true) ⊎ (names e y ≡ true)
-    after_tree (tree p e) s here = after_shape e s here
+    safer_pattern : (e : Tree) (a b : List NameSet) → Safer a b → pattern_faults all e b ≡ [] → pattern_faults all e a ≡ []
+    safer_pattern (tree p (int i)) a b w h = refl
+    safer_pattern (tree p (atom n)) a b w h = refl
+    safer_pattern (tree p (var n)) a b w h = safer_names p n a b w h
+    safer_pattern (tree p any) a b w h = refl
+    safer_pattern (tree p (list es)) a b w h = safer_patterns es a b w h
+    safer_pattern (tree p (list_to es e)) a b w h = both_none _ _ _ _ (safer_patterns es a b w) (safer_pattern e a b w) h
+    safer_pattern (tree p (tuple es)) a b w h = safer_patterns es a b w h
+    safer_pattern (tree p (matching q e)) a b w h = both_none _ _ _ _ (safer_pattern q a b w) (safer_pattern e a b w) h
+    safer_pattern (tree p (call f es)) a b w h = both_none _ _ _ _ (safer_pattern f a b w) (safer_patterns es a b w) h
+    safer_pattern (tree p (remote m f es)) a b w h = both_none _ _ _ _ (safer_pattern m a b w) (both_none _ _ _ _ (safer_pattern f a b w) (safer_patterns es a b w)) h
+    safer_pattern (tree p (case_of e cs)) a b w h = both_none _ _ _ _ (safer_pattern e a b w) (safer_pattern_clauses cs a b w) h
 
-    after_shape : (e : Shape) (s : NameSet) → IsIn y (shape_ways e s) → (s y ≡ true) ⊎ (shape_names e y ≡ true)
-    after_shape (int i) s here = inl (in_one y s here)
-    after_shape (atom n) s here = inl (in_one y s here)
-    after_shape (var n) s here =
-        elim (either (s y || n.index == y) false here) [ inl before ↦ either (s y) (n.index == y) before | inr none ↦ absurd (cc) ]
-    after_shape any s here = inl (in_one y s here)
-    after_shape (list es) s here = after_all es s here
-    after_shape (list_to es e) s here =
-        elim (in_pairs y (side_by_side es s) (ways e s) here) [
-          | inl left ↦ first_or s (all_names es y) (names e y) (after_all es s left)
-          | inr right ↦ second_or s (all_names es y) (names e y) (after_tree e s right)
-        ]
-    after_shape (tuple es) s here = after_all es s here
-    after_shape (matching p e) s here =
-        elim (in_bound y (names p) (ways e s) here) [
-          | inl left ↦ second_or s (names p y) (names e y) (after_tree e s left)
-          | inr right ↦ inr (from_left (names p y) (names e y) right)
-        ]
-    after_shape (call f es) s here =
-        elim (in_pairs y (ways f s) (side_by_side es s) here) [
-          | inl left ↦ first_or s (names f y) (all_names es y) (after_tree f s left)
-          | inr right ↦ second_or s (names f y) (all_names es y) (after_all es s right)
-        ]
-    after_shape (remote m f es) s here =
-        elim (in_pairs y (ways m s) (beside (ways f) (side_by_side es) s) here) [
-          | inl left ↦ first_or s (names m y) (names f y || all_names es y) (after_tree m s left)
-          | inr both ↦ second_or s (names m y) (names f y || all_names es y) (elim (in_pairs y (ways f s) (side_by_side es s) both) [
-            | inl left ↦ first_or s (names f y) (all_names es y) (after_tree f s left)
-            | inr right ↦ second_or s (names f y) (all_names es y) (after_all es s right)
-          ])
-        ]
+    safer_patterns : (es : Trees) (a b : List NameSet) → Safer a b → patterns_faults all es b ≡ [] → patterns_faults all es a ≡ []
+    safer_patterns end a b w h = refl
+    safer_patterns (more e es) a b w h = both_none _ _ _ _ (safer_pattern e a b w) (safer_patterns es a b w) h
 
-    after_all : (es : Trees) (s : NameSet) → IsIn y (side_by_side es s) → (s y ≡ true) ⊎ (all_names es y ≡ true)
-    after_all end s here = inl (in_one y s here)
-    after_all (more e es) s here =
-        elim (in_pairs y (ways e s) (side_by_side es s) here) [
-          | inl left ↦ first_or s (names e y) (all_names es y) (after_tree e s left)
-          | inr right ↦ second_or s (names e y) (all_names es y) (after_all es s right)
-        ]
-
-  after_each : (e : Tree) (sets : List NameSet) → IsIn y (flat_map (ways e) sets) → IsIn y sets ⊎ (names e y ≡ true)
-  after_each e [] here = absurd (cc)
-  after_each e (s ∷ sets) here =
-      elim (in_both y (ways e s) (flat_map (ways e) sets) here) [
-        | inl first ↦ elim (after_tree e s first) [ inl before ↦ inl (from_left (s y) (list_any (λ t. t y) sets) before) | inr mine ↦ inr mine ]
-        | inr rest ↦ elim (after_each e sets rest) [ inl before ↦ inl (from_right (s y) (list_any (λ t. t y) sets) before) | inr mine ↦ inr mine ]
-      ]
-
--- the names after a tree are among those from before and its own
-pub after_within : (e : Tree) (sets : List NameSet) (t u : NameSet) → AreWithin sets t → ((y : ℕ) → u y ≡ (t y || names e y)) → AreWithin (flat_map (ways e) sets) u
-after_within e sets t u within is y here =
-    is y ∙ elim (after_each y e sets here) [ inl before ↦ from_left (t y) (names e y) (within y before) | inr mine ↦ from_right (t y) (names e y) mine ]
-
--- ---- with more names there are no more faults
-
-module _ (texts : Texts) (sets : List NameSet) (t : NameSet) (within : AreWithin sets t) where
-  use_fewer : (p : Place) (n : Name) → use_faults texts p n sets ≡ [] → use_faults texts p n (t ∷ []) ≡ []
-  use_fewer p n none = by (on_some n sets) refl none
-    where
-      by : (found : Bool) → on_some n sets ≡ found → cond found [] (unbound texts p n ∷ []) ≡ [] → use_faults texts p n (t ∷ []) ≡ []
-      by true is h = ap (λ b. cond b [] (unbound texts p n ∷ [])) (from_left (t n.index) false (within n.index is))
-      by false is h = absurd (cc)
+    safer_pattern_clauses : (cs : Clauses) (a b : List NameSet) → Safer a b → pattern_clauses_faults all cs b ≡ [] → pattern_clauses_faults all cs a ≡ []
+    safer_pattern_clauses no_clauses a b w h = refl
+    safer_pattern_clauses (clause p ps g body cs) a b w h =
+        both_none _ _ _ _ (safer_patterns ps a b w) (both_none _ _ _ _ (safer_patterns body a b w) (safer_pattern_clauses cs a b w)) h
 
   mutual
-    pub fewer : (e : Tree) → faults texts e sets ≡ [] → faults texts e (t ∷ []) ≡ []
-    fewer (tree p e) none = shape_fewer p e none
+    pub safer_faults : (e : Tree) (a b : List NameSet) → Safer a b → faults all e b ≡ [] → faults all e a ≡ []
+    safer_faults (tree p (int i)) a b w h = refl
+    safer_faults (tree p (atom n)) a b w h = refl
+    safer_faults (tree p (var n)) a b w h = safer_uses p n a b w h
+    safer_faults (tree p any) a b w h = absurd (cc)
+    safer_faults (tree p (list es)) a b w h = safer_all es a b w h
+    safer_faults (tree p (list_to es e)) a b w h = both_none _ _ _ _ (safer_all es a b w) (safer_faults e a b w) h
+    safer_faults (tree p (tuple es)) a b w h = safer_all es a b w h
+    safer_faults (tree p (matching q e)) a b w h = both_none _ _ _ _ (safer_faults e a b w) (safer_pattern q _ _ (safer_after _ _ _ (grows_ways e) a b w)) h
+    safer_faults (tree p (call f es)) a b w h = both_none _ _ _ _ (safer_faults f a b w) (safer_all es a b w) h
+    safer_faults (tree p (remote m f es)) a b w h = both_none _ _ _ _ (safer_faults m a b w) (both_none _ _ _ _ (safer_faults f a b w) (safer_all es a b w)) h
+    safer_faults (tree p (case_of e cs)) a b w h = both_none _ _ _ _ (safer_faults e a b w) (safer_clauses cs _ _ (safer_after _ _ _ (grows_ways e) a b w)) h
 
-    shape_fewer : (p : Place) (e : Shape) → shape_faults texts p e sets ≡ [] → shape_faults texts p e (t ∷ []) ≡ []
-    shape_fewer p (int i) none = none
-    shape_fewer p (atom n) none = none
-    shape_fewer p (var n) none = use_fewer p n none
-    shape_fewer p any none = none
-    shape_fewer p (list es) none = all_fewer es none
-    shape_fewer p (list_to es e) none =
-        nothing_both (all_faults texts es (t ∷ [])) (faults texts e (t ∷ []))
-        (all_fewer es (nothing_left (all_faults texts es sets) (faults texts e sets) none))
-        (fewer e (nothing_right (all_faults texts es sets) (faults texts e sets) none))
-    shape_fewer p (tuple es) none = all_fewer es none
-    shape_fewer p (matching q e) none = fewer e none
-    shape_fewer p (call f es) none =
-        nothing_both (faults texts f (t ∷ [])) (all_faults texts es (t ∷ []))
-        (fewer f (nothing_left (faults texts f sets) (all_faults texts es sets) none))
-        (all_fewer es (nothing_right (faults texts f sets) (all_faults texts es sets) none))
-    shape_fewer p (remote m f es) none =
-        let rest : faults texts f sets ++ all_faults texts es sets ≡ [] = nothing_right (faults texts m sets) (faults texts f sets ++ all_faults texts es sets) none in
-        nothing_both (faults texts m (t ∷ [])) (faults texts f (t ∷ []) ++ all_faults texts es (t ∷ []))
-        (fewer m (nothing_left (faults texts m sets) (faults texts f sets ++ all_faults texts es sets) none))
-        (nothing_both (faults texts f (t ∷ [])) (all_faults texts es (t ∷ []))
-        (fewer f (nothing_left (faults texts f sets) (all_faults texts es sets) rest))
-        (all_fewer es (nothing_right (faults texts f sets) (all_faults texts es sets) rest)))
+    safer_all : (es : Trees) (a b : List NameSet) → Safer a b → all_faults all es b ≡ [] → all_faults all es a ≡ []
+    safer_all end a b w h = refl
+    safer_all (more e es) a b w h = both_none _ _ _ _ (safer_faults e a b w) (safer_all es a b w) h
 
-    pub all_fewer : (es : Trees) → all_faults texts es sets ≡ [] → all_faults texts es (t ∷ []) ≡ []
-    all_fewer end none = none
-    all_fewer (more e es) none =
-        nothing_both (faults texts e (t ∷ [])) (all_faults texts es (t ∷ []))
-        (fewer e (nothing_left (faults texts e sets) (all_faults texts es sets) none))
-        (all_fewer es (nothing_right (faults texts e sets) (all_faults texts es sets) none))
+    pub safer_body : (es : Trees) (a b : List NameSet) → Safer a b → body_faults all es b ≡ [] → body_faults all es a ≡ []
+    safer_body end a b w h = refl
+    safer_body (more e es) a b w h = both_none _ _ _ _ (safer_faults e a b w) (safer_body es _ _ (safer_after _ _ _ (grows_ways e) a b w)) h
+
+    pub safer_clauses : (cs : Clauses) (a b : List NameSet) → Safer a b → clauses_faults all cs b ≡ [] → clauses_faults all cs a ≡ []
+    safer_clauses no_clauses a b w h = refl
+    safer_clauses (clause p ps g body cs) a b w h =
+        both_none _ _ _ _ (safer_patterns ps a b w) (both_none _ _ _ _ (safer_body body _ _ (safer_after _ _ _ (grows_bind (all_names ps)) a b w)) (safer_clauses cs a b w)) h
 
 -- a use without a fault is of a bound name
 pub used_bound : (texts : Texts) (p : Place) (n : Name) (s : NameSet) → use_faults texts p n (s ∷ []) ≡ [] → s n.index ≡ true
-used_bound texts p n s none = by (s n.index) refl none
-  where
-    by : (found : Bool) → s n.index ≡ found → cond (found || false) [] (unbound texts p n ∷ []) ≡ [] → s n.index ≡ true
-    by true is h = is
-    by false is h = absurd (cc)
+used_bound texts p n s none = sym (and_true (s n.index)) ∙ bound_use (unsafe texts p n) (unbound texts p n) (on_all n (s ∷ [])) (on_some n (s ∷ [])) none

@@ -1,13 +1,14 @@
--- A pattern binds no more names than it is heavy.
-use Rattle.std.proofs.Common.{◌≡◌, ◌≤◌, ◌+◌, ◌==◌, ◌||◌, ℕ, Bool, true, false, if◌then◌else◌, List, [], ◌∷◌, ◌++◌, length, Some, None, refl, sym, ap, ◌∙◌, subst, arith}
+-- A pattern binds no more names than it is heavy, and so do the clauses of a `case`.
+use Rattle.std.proofs.Common.{◌≡◌, ◌≤◌, ◌+◌, ◌==◌, ◌||◌, ◌&&◌, ℕ, Bool, true, false, if◌then◌else◌, List, [], ◌∷◌, ◌++◌, length, Some, None, refl, sym, ap, ◌∙◌, arith}
 use Rattle.std.proofs.lemmas.Bool.Decides.{nat_tests}
 use Rattle.ef_base.specs.declared.name.Name.{Name}
 use Rattle.ef_core.specs.declared.env.Bind.{Bind}
 use Rattle.ef_core.specs.Env.{NamesDiffer, held}
 use Rattle.ef_core.specs.Everywhere.{Each}
-use Rattle.ef_forms.specs.Tree.{Tree, Shape, Trees, tree, int, atom, var, any, list, list_to, tuple, matching, call, remote, end, more}
-use Rattle.ef_forms.specs.Ways.{NameSet, no_names, one_name, union, names, shape_names, all_names}
-use Rattle.ef_forms.specs.Weight.{weight, shape_weight, all_weight}
+use Rattle.ef_forms.specs.Sure.{sure, shape_sure, all_sure, clauses_sure}
+use Rattle.ef_forms.specs.Tree.{Tree, Shape, Trees, Clauses, tree, int, atom, var, any, list, list_to, tuple, matching, call, remote, case_of, end, more, no_clauses, clause}
+use Rattle.ef_forms.specs.Ways.{NameSet, no_names, one_name, union, common, names, shape_names, all_names, clauses_names}
+use Rattle.ef_forms.specs.Weight.{weight, shape_weight, all_weight, clauses_weight}
 use Rattle.ef_meaning.proofs.Bodies.{same_name}
 use Rattle.ef_lower.specs.Ready.{bound_names}
 use Rattle.ef_lower.proofs.Faults.{from_right}
@@ -33,6 +34,15 @@ either_most false b = omega arith
 union_most : (s t : NameSet) (bs : List Bind) → count_in (union s t) bs ≤ count_in s bs + count_in t bs
 union_most s t [] = omega arith
 union_most s t (b ∷ bs) = let one = either_most (s b.name.index) (t b.name.index) in let rest = union_most s t bs in omega arith
+
+first_most : (a b : Bool) → one_if (a && b) ≤ one_if a
+first_most true true = omega arith
+first_most true false = omega arith
+first_most false b = omega arith
+
+common_most : (s t : NameSet) (bs : List Bind) → count_in (common s t) bs ≤ count_in s bs
+common_most s t [] = omega arith
+common_most s t (b ∷ bs) = let one = first_most (s b.name.index) (t b.name.index) in let rest = common_most s t bs in omega arith
 
 none_in : (bs : List Bind) → count_in no_names bs ≡ 0
 none_in [] = refl
@@ -76,10 +86,49 @@ module _ (bs : List Bind) (differ : NamesDiffer bs) where
     few_in_shape (remote m f es) =
         let most = union_most (names m) (union (names f) (all_names es)) bs in let most_of = union_most (names f) (all_names es) bs in
         let left = few_in m in let right = few_in f in let all = few_in_all es in omega arith
+    few_in_shape (case_of e cs) = let most = union_most (names e) (clauses_names cs) bs in let one = few_in e in let all = few_in_clauses cs in omega arith
 
-    few_in_all : (es : Trees) → count_in (all_names es) bs ≤ all_weight es
+    pub few_in_all : (es : Trees) → count_in (all_names es) bs ≤ all_weight es
     few_in_all end = let none = none_in bs in omega arith
     few_in_all (more e es) = let most = union_most (names e) (all_names es) bs in let one = few_in e in let all = few_in_all es in omega arith
+
+    few_in_clauses : (cs : Clauses) → count_in (clauses_names cs) bs ≤ clauses_weight cs
+    few_in_clauses no_clauses = let none = none_in bs in omega arith
+    few_in_clauses (clause p ps g body cs) =
+        let most = union_most (all_names ps) (union (all_names body) (clauses_names cs)) bs in let most_of = union_most (all_names body) (clauses_names cs) bs in
+        let left = few_in_all ps in let right = few_in_all body in let rest = few_in_clauses cs in omega arith
+
+  -- those that are bound for sure
+  mutual
+    few_sure : (e : Tree) → count_in (sure e) bs ≤ weight e
+    few_sure (tree p e) = few_sure_shape e
+
+    few_sure_shape : (e : Shape) → count_in (shape_sure e) bs ≤ shape_weight e
+    few_sure_shape (int i) = let none = none_in bs in omega arith
+    few_sure_shape (atom n) = let none = none_in bs in omega arith
+    few_sure_shape (var n) = one_most n bs differ
+    few_sure_shape any = let none = none_in bs in omega arith
+    few_sure_shape (list es) = let all = few_sure_all es in omega arith
+    few_sure_shape (list_to es e) = let most = union_most (all_sure es) (sure e) bs in let all = few_sure_all es in let one = few_sure e in omega arith
+    few_sure_shape (tuple es) = let all = few_sure_all es in omega arith
+    few_sure_shape (matching p e) = let most = union_most (sure e) (names p) bs in let left = few_in p in let right = few_sure e in omega arith
+    few_sure_shape (call f es) = let most = union_most (sure f) (all_sure es) bs in let one = few_sure f in let all = few_sure_all es in omega arith
+    few_sure_shape (remote m f es) =
+        let most = union_most (sure m) (union (sure f) (all_sure es)) bs in let most_of = union_most (sure f) (all_sure es) bs in
+        let left = few_sure m in let right = few_sure f in let all = few_sure_all es in omega arith
+    few_sure_shape (case_of e cs) = let most = union_most (sure e) (clauses_sure cs) bs in let one = few_sure e in let all = few_sure_clauses cs in omega arith
+
+    few_sure_all : (es : Trees) → count_in (all_sure es) bs ≤ all_weight es
+    few_sure_all end = let none = none_in bs in omega arith
+    few_sure_all (more e es) = let most = union_most (sure e) (all_sure es) bs in let one = few_sure e in let all = few_sure_all es in omega arith
+
+    few_sure_clauses : (cs : Clauses) → count_in (clauses_sure cs) bs ≤ clauses_weight cs
+    few_sure_clauses no_clauses = let none = none_in bs in omega arith
+    few_sure_clauses (clause p ps g body no_clauses) =
+        let most = union_most (all_names ps) (all_sure body) bs in let left = few_in_all ps in let right = few_sure_all body in omega arith
+    few_sure_clauses (clause p ps g body (clause q qs h d cs)) =
+        let fewer = common_most (union (all_names ps) (all_sure body)) (clauses_sure (clause q qs h d cs)) bs in
+        let most = union_most (all_names ps) (all_sure body) bs in let left = few_in_all ps in let right = few_sure_all body in omega arith
 
 -- ---- the names of a pattern
 
@@ -112,7 +161,14 @@ their_names env binds s all (b ∷ bs) own new =
       their_names env binds s all bs own.1 new.1,
     )
 
-pub few_binds : (env binds : List Bind) (p : Tree) → NamesDiffer binds → Each (λ b. held env b.name ≡ None) binds → ((y : ℕ) → bound_names (env ++ binds) y ≡ (bound_names env y || names p y)) → length binds ≤ weight p
-few_binds env binds p differ new all =
-    let every = all_in (names p) binds (their_names env binds (names p) all binds (own_names binds) new) in
-    let few = few_in binds differ p in omega arith
+-- names that are new, differ and are of a set that is not greater than a number
+few_of : (s : NameSet) (most : ℕ) (env binds : List Bind) → ((bs : List Bind) → NamesDiffer bs → count_in s bs ≤ most) → NamesDiffer binds → Each (λ b. held env b.name ≡ None) binds → ((y : ℕ) → bound_names (env ++ binds) y ≡ (bound_names env y || s y)) → length binds ≤ most
+few_of s most env binds few differ new all =
+    let every = all_in s binds (their_names env binds s all binds (own_names binds) new) in
+    let all_of = few binds differ in omega arith
+
+pub few_binds : (env binds : List Bind) (ps : Trees) → NamesDiffer binds → Each (λ b. held env b.name ≡ None) binds → ((y : ℕ) → bound_names (env ++ binds) y ≡ (bound_names env y || all_names ps y)) → length binds ≤ all_weight ps
+few_binds env binds ps differ new all = few_of (all_names ps) (all_weight ps) env binds (λ bs d. few_in_all bs d ps) differ new all
+
+pub few_shared : (env binds : List Bind) (cs : Clauses) → NamesDiffer binds → Each (λ b. held env b.name ≡ None) binds → ((y : ℕ) → bound_names (env ++ binds) y ≡ (bound_names env y || clauses_sure cs y)) → length binds ≤ clauses_weight cs
+few_shared env binds cs differ new all = few_of (clauses_sure cs) (clauses_weight cs) env binds (λ bs d. few_sure_clauses bs d cs) differ new all

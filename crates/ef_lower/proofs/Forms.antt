@@ -1,5 +1,5 @@
 -- The forms of what trees are lowered to, put together.
-use Rattle.std.proofs.Common.{◌≡◌, ◌<◌, ◌≤◌, ◌+◌, ◌*◌, ◌^◌, ◌||◌, ℕ, ℤ, Bool, true, false, max, length, length-append, List, [], ◌∷◌, ◌++◌, refl, sym, ap, ◌∙◌, subst, arith, append_assoc, append-nil}
+use Rattle.std.proofs.Common.{◌≡◌, ◌<◌, ◌≤◌, ◌+◌, ◌*◌, ◌^◌, ◌||◌, ℕ, ℤ, true, false, length, length-append, List, [], ◌∷◌, ◌++◌, refl, sym, ap, ◌∙◌, subst, arith, append_assoc, append-nil}
 use Rattle.ef_base.specs.declared.name.Name.{Name}
 use Rattle.ef_base.specs.Texts.{Texts, HasName}
 use Rattle.ef_core.specs.declared.env.Bind.{Bind}
@@ -23,15 +23,16 @@ use Rattle.ef_forms.proofs.Depths.{some_depth}
 use Rattle.ef_forms.specs.declared.tables.FunctionName.{FunctionName}
 use Rattle.ef_forms.specs.Depth.{all_depth, depth as source_depth}
 use Rattle.ef_forms.specs.Plain.{trees}
+use Rattle.ef_forms.specs.Sure.{all_sure, sure}
 use Rattle.ef_forms.specs.Tree.{Tree}
-use Rattle.ef_forms.specs.Ways.{NameSet, all_names, names}
+use Rattle.ef_forms.specs.Ways.{NameSet}
 use Rattle.ef_forms.specs.Weight.{all_weight, weight}
 use Rattle.ef_meaning.proofs.Parts.{one_step}
-use Rattle.ef_lower.specs.Lowers.{Adds, ArgumentForms, Binds, Draws, Finishes, IsArgument, IsLowered, IsLoweredStep, IsShallow, ValueForm, lowered}
+use Rattle.ef_lower.specs.Lowers.{ArgumentForms, Binds, Finishes, IsArgument, IsLowered, IsLoweredStep, IsShallow, ValueForm, lowered}
 use Rattle.ef_lower.specs.Ready.{IsReadableBind, bound_names}
-use Rattle.ef_lower.specs.Scope.{AreInScope, HasFunctions, IsInScope}
-use Rattle.ef_lower.proofs.Scopes.{both_in_scope, made_in_scope, nothing_in_scope, put_in_scope, run_in_scope, value_in_scope}
-use Rattle.ef_lower.proofs.Sizes.{depth_both, names_both, or_absorb, or_assoc, or_false, some_weight, weight_both}
+use Rattle.ef_lower.specs.Scope.{HasFunctions, IsInScope}
+use Rattle.ef_lower.proofs.Scopes.{both_in_scope, made_in_scope, nothing_in_scope, put_in_scope, value_in_scope}
+use Rattle.ef_lower.proofs.Sizes.{depth_both, or_absorb, or_assoc, or_false, some_weight, sure_both, weight_both}
 
 pub each_both : {A : Type 0} (P : A → Type 0) (xs ys : List A) → Each P xs → Each P ys → Each P (xs ++ ys)
 each_both P [] ys left right = right
@@ -111,11 +112,11 @@ module _ (texts : Texts) where
     readable = b.readable;
   }
 
-  binds_both : (es ds : List Tree) {env0 env1 env2 : List Bind} → Binds texts env0 (all_names (trees es)) env1 → Binds texts env1 (all_names (trees ds)) env2 → Binds texts env0 (all_names (trees (es ++ ds))) env2
+  binds_both : (es ds : List Tree) {env0 env1 env2 : List Bind} → Binds texts env0 (all_sure (trees es)) env1 → Binds texts env1 (all_sure (trees ds)) env2 → Binds texts env0 (all_sure (trees (es ++ ds))) env2
   binds_both es ds {env0} {env1} {env2} one two = record {
     more = one.more ++ two.more;
     grown = two.grown ∙ ap (λ l. l ++ two.more) one.grown ∙ append_assoc env0 one.more two.more;
-    named = λ y. two.named y ∙ ap (λ b. b || all_names (trees ds) y) (one.named y) ∙ or_assoc (bound_names env0 y) (all_names (trees es) y) (all_names (trees ds) y) ∙ ap (λ b. bound_names env0 y || b) (sym (names_both es ds y));
+    named = λ y. two.named y ∙ ap (λ b. b || all_sure (trees ds) y) (one.named y) ∙ or_assoc (bound_names env0 y) (all_sure (trees es) y) (all_sure (trees ds) y) ∙ ap (λ b. bound_names env0 y || b) (sym (sure_both es ds y));
     readable = two.readable;
   }
 
@@ -132,7 +133,7 @@ module _ (texts : Texts) where
 module _ (texts : Texts) (defined : List FunctionName) where
   pub nothing_form : {n : ℕ} {env : List Bind} → Each (IsReadableBind texts) env → ArgumentForms texts defined [] n env [] n env []
   nothing_form {n} {env} readable = record {
-    names = binds_nothing texts (all_names (trees [])) env readable (λ y here. absurd (cc));
+    names = binds_nothing texts (all_sure (trees [])) env readable (λ y here. absurd (cc));
     number = refl;
     drawn = omega arith;
     enough = omega arith;
@@ -208,9 +209,9 @@ module _ (texts : Texts) (defined : List FunctionName) where
   -- ---- values
 
   -- what needs no step
-  pub leaf_form : (e : Tree) (v : CoreTree) {n : ℕ} {env : List Bind} → Each (IsReadableBind texts) env → ((y : ℕ) → names e y ≡ true → bound_names env y ≡ true) → IsLowered texts v → IsNoRun v → depth v ≤ source_depth e → IsInScope texts defined env v → ValueForm texts defined (e ∷ []) n env [] n env v
+  pub leaf_form : (e : Tree) (v : CoreTree) {n : ℕ} {env : List Bind} → Each (IsReadableBind texts) env → ((y : ℕ) → sure e y ≡ true → bound_names env y ≡ true) → IsLowered texts v → IsNoRun v → depth v ≤ source_depth e → IsInScope texts defined env v → ValueForm texts defined (e ∷ []) n env [] n env v
   leaf_form e v {n} {env} readable within is no_run deep in_scope = record {
-    names = binds_nothing texts (all_names (trees (e ∷ []))) env readable (λ y here. within y (sym (or_false (names e y)) ∙ here));
+    names = binds_nothing texts (all_sure (trees (e ∷ []))) env readable (λ y here. within y (sym (or_false (sure e y)) ∙ here));
     drawn = omega arith;
     enough = let some = some_weight e in omega arith;
     steps = tt;
@@ -222,10 +223,10 @@ module _ (texts : Texts) (defined : List FunctionName) where
   }
 
   -- a value that is made of arguments
-  pub made_form : {es : List Tree} {n m : ℕ} {env0 env1 : List Bind} {a : List StepTree} {vs : List CoreTree} (e : Tree) (v : CoreTree) → ArgumentForms texts defined es n env0 a m env1 vs → all_weight (trees es) + 1 ≤ weight e → all_depth (trees es) ≤ source_depth e → ((y : ℕ) → names e y ≡ all_names (trees es) y) →
+  pub made_form : {es : List Tree} {n m : ℕ} {env0 env1 : List Bind} {a : List StepTree} {vs : List CoreTree} (e : Tree) (v : CoreTree) → ArgumentForms texts defined es n env0 a m env1 vs → all_weight (trees es) + 1 ≤ weight e → all_depth (trees es) ≤ source_depth e → ((y : ℕ) → sure e y ≡ all_sure (trees es) y) →
       IsLowered texts v → IsNoRun v → depth v ≤ source_depth e → ((xs : List CoreVar) (fs : List FName) → HasFunctions texts defined fs → AllInScope xs fs (core.trees vs) → InScope xs fs v) → ValueForm texts defined (e ∷ []) n env0 a m env1 v
   made_form {es} {n} {m} {env0} {env1} {a} {vs} e v all more deeper same is no_run deep made = record {
-    names = binds_as texts (all_names (trees es)) (all_names (trees (e ∷ []))) (λ y. or_false (names e y) ∙ same y) all.names;
+    names = binds_as texts (all_sure (trees es)) (all_sure (trees (e ∷ []))) (λ y. or_false (sure e y) ∙ same y) all.names;
     drawn = all.drawn;
     enough = let p = all.enough in omega arith;
     steps = steps_wider texts (all_depth (trees es)) (all_depth (trees (e ∷ []))) a (omega arith) all.steps;
@@ -237,9 +238,9 @@ module _ (texts : Texts) (defined : List FunctionName) where
   }
 
   -- the value of another tree, which is no less heavy and no less deep and has the same names
-  pub form_as : {n m : ℕ} {env0 env1 : List Bind} {a : List StepTree} {v : CoreTree} (e d : Tree) → ValueForm texts defined (e ∷ []) n env0 a m env1 v → weight e ≤ weight d → source_depth e ≤ source_depth d → ((y : ℕ) → names d y ≡ names e y) → ValueForm texts defined (d ∷ []) n env0 a m env1 v
+  pub form_as : {n m : ℕ} {env0 env1 : List Bind} {a : List StepTree} {v : CoreTree} (e d : Tree) → ValueForm texts defined (e ∷ []) n env0 a m env1 v → weight e ≤ weight d → source_depth e ≤ source_depth d → ((y : ℕ) → sure d y ≡ sure e y) → ValueForm texts defined (d ∷ []) n env0 a m env1 v
   form_as {n} {m} {env0} {env1} {a} {v} e d one heavier deeper same = record {
-    names = binds_as texts (all_names (trees (e ∷ []))) (all_names (trees (d ∷ []))) (λ y. ap (λ b. b || false) (same y)) one.names;
+    names = binds_as texts (all_sure (trees (e ∷ []))) (all_sure (trees (d ∷ []))) (λ y. ap (λ b. b || false) (same y)) one.names;
     drawn = one.drawn;
     enough = let p = one.enough in omega arith;
     steps = steps_wider texts (all_depth (trees (e ∷ []))) (all_depth (trees (d ∷ []))) a (omega arith) one.steps;

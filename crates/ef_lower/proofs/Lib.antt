@@ -8,10 +8,17 @@ pub mod Kept
 pub mod Behind
 pub mod Few
 pub mod Several
+pub mod Variables
+pub mod Clauses
+pub mod LastClause
 pub mod Matching
 pub mod Literals
 pub mod Source
 pub mod Exported
 pub mod Bodies
+pub mod Shared
+pub mod LoweredArms
+pub mod ByCase
+pub mod OneArm
 pub mod Renames
 pub mod Stepped

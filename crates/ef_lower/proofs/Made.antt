@@ -1,12 +1,11 @@
 -- What leaves and nodes of arguments are lowered to.
-use Rattle.std.proofs.Common.{◌≡◌, ◌<◌, ◌≤◌, ◌+◌, ◌^◌, ◌==◌, ℕ, ℤ, inl, inr, true, length, List, [], ◌∷◌, ◌++◌, map, Some, refl, sym, ap, ◌∙◌, subst, arith, eqb-true}
+use Rattle.std.proofs.Common.{◌≡◌, ◌≤◌, ℕ, ℤ, inl, inr, true, length, List, [], ◌∷◌, Some, refl, sym, ◌∙◌, subst, arith, eqb-true}
 use Rattle.ef_base.specs.declared.name.Name.{Name}
 use Rattle.ef_base.specs.declared.fault.Place.{Place}
 use Rattle.ef_base.specs.Texts.{Texts, HasName}
 use Rattle.ef_core.specs.declared.env.Bind.{Bind}
 use Rattle.ef_core.specs.declared.literal.CoreVar.{CoreVar}
-use Rattle.ef_core.specs.declared.literal.FName.{FName}
-use Rattle.ef_core.specs.Depth.{depth, lits_depth}
+use Rattle.ef_core.specs.Depth.{lits_depth}
 use Rattle.ef_core.specs.Env.{held}
 use Rattle.ef_core.specs.Everywhere.{Each, LitsHold}
 use Rattle.ef_core.specs.Plain as core
@@ -26,8 +25,8 @@ use Rattle.ef_meaning.specs.Lowers.{AreBelow, KeepsExpr}
 use Rattle.ef_meaning.proofs.Calls.{call_keeps, remote_call_keeps}
 use Rattle.ef_meaning.proofs.Parts.{atom_keeps, int_keeps, var_keeps}
 use Rattle.ef_meaning.proofs.Terms.{list_keeps, list_literal_keeps, tuple_keeps, tuple_literal_keeps}
-use Rattle.ef_lower.specs.Lowers.{IsArgument, IsLowered, Lowers, LowersAll, lowered}
-use Rattle.ef_lower.specs.Nodes.{Joins, JoinsTo, literal_values}
+use Rattle.ef_lower.specs.Lowers.{IsArgument, Lowers, LowersAll, lowered}
+use Rattle.ef_lower.specs.Nodes.{Joins, literal_values}
 use Rattle.ef_lower.specs.Ready.{IsReadableBind, bound_names}
 use Rattle.ef_lower.proofs.Forms.{arguments_depth, arguments_lowered, atom_lowered, fun_name_lowered, int_lowered, leaf_form, made_form, simple, single, variable_lowered}
 use Rattle.ef_lower.proofs.Names.{held_has}

@@ -11,7 +11,7 @@ use Rattle.ef_core.specs.Everywhere.{Each}
 use Rattle.ef_core.specs.Plain.{plain}
 use Rattle.ef_core.specs.Tree.{CoreTree, var}
 use Rattle.ef_core.proofs.Held.{held_back, held_before}
-use Rattle.ef_meaning.specs.Cases.{names_of}
+use Rattle.ef_meaning.specs.Cases.{AreHeld, names_of}
 use Rattle.ef_meaning.specs.Lowers.{env_from, params_from}
 use Rattle.ef_lower.specs.Exports.{held_variables}
 
@@ -47,11 +47,12 @@ module _ (bs : List Bind) (i n m : ℕ) (v : CoreVar) (small : i < length bs) (n
   next_var : v ≡ Numbered (n + length (names_of (take i bs)))
   next_var = is ∙ ap Numbered (number ∙ ap (λ k. n + k) (sym (taken_count bs i small)))
 
-  pub params_push : (vs new : List CoreVar) → new ≡ vs ++ v ∷ [] → vs ≡ params_from n (names_of (take i bs)) → new ≡ params_from n (names_of (take (i + 1) bs))
-  params_push vs new pushed so_far =
+  pub params_push : (vs first new : List CoreVar) → new ≡ vs ++ v ∷ [] → vs ≡ first ++ params_from n (names_of (take i bs)) → new ≡ first ++ params_from n (names_of (take (i + 1) bs))
+  params_push vs first new pushed so_far =
       let d = bind (record { index = 0 }) v in
-      pushed ∙ ap (λ l. l ++ v ∷ []) so_far ∙ ap (λ u. params_from n (names_of (take i bs)) ++ u ∷ []) next_var
-      ∙ sym (params_more n (names_of (take i bs)) (get_or bs i d).name) ∙ ap (params_from n) (sym (names_next bs i d small))
+      pushed ∙ ap (λ l. l ++ v ∷ []) so_far ∙ ap (λ u. first ++ params_from n (names_of (take i bs)) ++ u ∷ []) next_var
+      ∙ append_assoc first (params_from n (names_of (take i bs))) (Numbered (n + length (names_of (take i bs))) ∷ [])
+      ∙ ap (λ l. first ++ l) (sym (params_more n (names_of (take i bs)) (get_or bs i d).name) ∙ ap (params_from n) (sym (names_next bs i d small)))
 
   pub env_push : (d : Bind) (env first new : List Bind) → new ≡ env ++ bind (get_or bs i d).name v ∷ [] → env ≡ first ++ env_from n (names_of (take i bs)) → new ≡ first ++ env_from n (names_of (take (i + 1) bs))
   env_push d env first new pushed so_far =
@@ -79,3 +80,25 @@ not_yet env first bs i n d differ new small is =
     ap (λ l. held l (get_or bs i d).name) is
     ∙ held_back first (env_from n (names_of (take i bs))) (get_or bs i d).name (new_at first bs i d new small)
     ∙ renamed_none (take i bs) n (get_or bs i d).name (held_before bs i d differ small)
+
+-- ---- names with variables of their own
+
+pub bound_next : (env first new bs : List Bind) (i : ℕ) (d : Bind) → i < length bs → new ≡ env ++ bind (get_or bs i d).name (get_or bs i d).var ∷ [] → env ≡ first ++ take i bs → new ≡ first ++ take (i + 1) bs
+bound_next env first new bs i d small pushed so_far =
+    pushed ∙ ap (λ l. l ++ get_or bs i d ∷ []) so_far ∙ append_assoc first (take i bs) (get_or bs i d ∷ []) ∙ ap (λ l. first ++ l) (sym (take_more bs i d small))
+
+pub not_bound_yet : (env first bs : List Bind) (i : ℕ) (d : Bind) → NamesDiffer bs → Each (λ b. held first b.name ≡ None) bs → i < length bs → env ≡ first ++ take i bs → held env (get_or bs i d).name ≡ None
+not_bound_yet env first bs i d differ new small is =
+    ap (λ l. held l (get_or bs i d).name) is ∙ held_back first (take i bs) (get_or bs i d).name (new_at first bs i d new small) ∙ held_before bs i d differ small
+
+-- the same names, with other variables
+pub own_named : (bs own new : List Bind) (i : ℕ) (d : Bind) (v : CoreVar) → i < length bs → new ≡ own ++ bind (get_or bs i d).name v ∷ [] → names_of own ≡ names_of (take i bs) → names_of new ≡ names_of (take (i + 1) bs)
+own_named bs own new i d v small pushed so_far =
+    ap names_of pushed ∙ map-append (λ (b : Bind). b.name) own (bind (get_or bs i d).name v ∷ []) ∙ ap (λ l. l ++ (get_or bs i d).name ∷ []) so_far ∙ sym (names_next bs i d small)
+
+pub own_held : (env own new : List Bind) (x : Name) (v : CoreVar) → new ≡ own ++ bind x v ∷ [] → AreHeld env own → held env x ≡ Some v → AreHeld env new
+own_held env own new x v pushed are is = subst (AreHeld env) (sym pushed) (behind own are)
+  where
+    behind : (bs : List Bind) → AreHeld env bs → AreHeld env (bs ++ bind x v ∷ [])
+    behind [] all = (is, tt)
+    behind (b ∷ bs) all = (all.0, behind bs all.1)

@@ -1,5 +1,5 @@
 -- Arguments that are given together.
-use Rattle.std.proofs.Common.{◌≡◌, ◌≤◌, ◌+◌, List, [], ◌∷◌, arith, ℕ}
+use Rattle.std.proofs.Common.{◌≤◌, ◌+◌, List, [], ◌∷◌, arith, ℕ}
 use Rattle.ef_base.specs.Texts.{Texts}
 use Rattle.ef_core.specs.declared.env.Bind.{Bind}
 use Rattle.ef_core.specs.declared.literal.CoreVar.{CoreVar}

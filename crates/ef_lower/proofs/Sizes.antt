@@ -3,8 +3,8 @@ use Rattle.std.proofs.Common.{◌≡◌, ◌≤◌, ◌+◌, ℕ, Bool, true, fa
 use Rattle.ef_core.specs.declared.env.Bind.{Bind}
 use Rattle.ef_forms.specs.Depth.{all_depth}
 use Rattle.ef_forms.specs.Plain.{trees}
-use Rattle.ef_forms.specs.Tree.{Tree, tree, int, atom, var, any, list, list_to, tuple, matching, call, remote, count}
-use Rattle.ef_forms.specs.Ways.{NameSet, all_names, names}
+use Rattle.ef_forms.specs.Sure.{all_sure, sure}
+use Rattle.ef_forms.specs.Tree.{Tree, tree, int, atom, var, any, list, list_to, tuple, matching, call, remote, case_of, count}
 use Rattle.ef_forms.specs.Weight.{all_weight, weight}
 use Rattle.ef_meaning.specs.Named.{bound_names}
 
@@ -19,6 +19,7 @@ some_weight (tree p (tuple es)) = omega arith
 some_weight (tree p (matching q e)) = omega arith
 some_weight (tree p (call f es)) = omega arith
 some_weight (tree p (remote m f es)) = omega arith
+some_weight (tree p (case_of e cs)) = omega arith
 
 pub weight_both : (es ds : List Tree) → all_weight (trees (es ++ ds)) ≡ all_weight (trees es) + all_weight (trees ds)
 weight_both [] ds = omega arith
@@ -52,16 +53,9 @@ or_absorb true b h = refl
 or_absorb false true h = h refl
 or_absorb false false h = refl
 
-pub or_swap : (a b c : Bool) → (a || b || c) ≡ (a || (c || b))
-or_swap true b c = refl
-or_swap false true true = refl
-or_swap false true false = refl
-or_swap false false true = refl
-or_swap false false false = refl
-
-pub names_both : (es ds : List Tree) (y : ℕ) → all_names (trees (es ++ ds)) y ≡ (all_names (trees es) y || all_names (trees ds) y)
-names_both [] ds y = refl
-names_both (e ∷ es) ds y = ap (λ b. names e y || b) (names_both es ds y) ∙ sym (or_assoc (names e y) (all_names (trees es) y) (all_names (trees ds) y))
+pub sure_both : (es ds : List Tree) (y : ℕ) → all_sure (trees (es ++ ds)) y ≡ (all_sure (trees es) y || all_sure (trees ds) y)
+sure_both [] ds y = refl
+sure_both (e ∷ es) ds y = ap (λ b. sure e y || b) (sure_both es ds y) ∙ sym (or_assoc (sure e y) (all_sure (trees es) y) (all_sure (trees ds) y))
 
 pub bound_both : (xs ys : List Bind) (y : ℕ) → bound_names (xs ++ ys) y ≡ (bound_names xs y || bound_names ys y)
 bound_both [] ys y = refl

@@ -1,6 +1,5 @@
 -- The names that a body exports, and their values behind its own.
-use Rattle.std.specs.Prelude.{ℕ, ◌≡◌, ◌==◌, ◌||◌, List, [], ◌∷◌, None, map}
-use Rattle.std.specs.List.{list_any}
+use Rattle.std.specs.Prelude.{ℕ, ◌≡◌, ◌||◌, List, [], ◌∷◌, None, map}
 use Rattle.ef_base.specs.declared.name.Name.{Name}
 use Rattle.ef_core.specs.declared.env.Bind.{Bind}
 use Rattle.ef_core.specs.Conditions.{NoneTwice}
@@ -9,15 +8,12 @@ use Rattle.ef_core.specs.Everywhere.{Each}
 use Rattle.ef_core.specs.Plain.{StepTree}
 use Rattle.ef_core.specs.Tree.{CoreTree, var}
 use Rattle.ef_forms.specs.Ways.{NameSet}
-use Rattle.ef_meaning.specs.Cases.{names_of, together}
-use Rattle.ef_meaning.specs.Named.{bound_names}
+use Rattle.ef_meaning.specs.Cases.{together}
+use Rattle.ef_meaning.specs.Named.{bound_names, name_set}
 use Rattle.ef_lower.specs.Lowers.{Finishes, StandsFor}
 
 abbrev pub held_variables : List Bind → List CoreTree
 held_variables bs = map (λ (b : Bind). var b.var) bs
-
-abbrev pub name_set : List Name → NameSet
-name_set xs = λ y. list_any (λ (x : Name). x.index == y) xs
 
 -- the names of a set that an environment does not have
 pub record IsExported (env : List Bind) (set : NameSet) (names : List Name) : Type 0 where
@@ -31,9 +27,8 @@ StandsBeside [] value n old m new v = (v ≡ value) × (m ≡ n) × (new ≡ old
 StandsBeside (b ∷ bs) value n old m new v = StandsFor value n old m new v
 
 -- steps, then the value and those of these names
-pub record GivesNames (value : CoreTree) (n : ℕ) (old : List StepTree) (binds : List Bind) (m : ℕ) (names : List Name) (e : CoreTree) : Type 0 where
+pub record GivesNames (value : CoreTree) (n : ℕ) (old : List StepTree) (binds : List Bind) (m : ℕ) (e : CoreTree) : Type 0 where
   pub first : CoreTree
   pub steps : List StepTree
   pub stands : StandsBeside binds value n old m steps first
-  pub named : names ≡ names_of binds
   pub is : Finishes steps (together (first ∷ held_variables binds)) e

@@ -4,4 +4,5 @@ pub mod Lowers
 pub mod Nodes
 pub mod Exports
 pub mod Matches
+pub mod Arms
 pub mod Examples

@@ -18,7 +18,8 @@ use Rattle.ef_forms.specs.declared.tables.FunctionName.{FunctionName}
 use Rattle.ef_forms.specs.Depth.{all_depth}
 use Rattle.ef_forms.specs.Plain.{trees}
 use Rattle.ef_forms.specs.Tree.{Tree}
-use Rattle.ef_forms.specs.Ways.{NameSet, all_names}
+use Rattle.ef_forms.specs.Sure.{all_sure}
+use Rattle.ef_forms.specs.Ways.{NameSet}
 use Rattle.ef_forms.specs.Weight.{all_weight}
 use Rattle.ef_meaning.specs.Lowers.{KeepsExpr, KeepsAll}
 use Rattle.ef_lower.specs.Ready.{IsReadableBind, bound_names}
@@ -77,7 +78,7 @@ pub record Binds (texts : Texts) (env0 : List Bind) (set : NameSet) (env1 : List
 module _ (texts : Texts) (defined : List FunctionName) (es : List Tree) (n0 : ℕ) (env0 : List Bind) (added : List StepTree) (n1 : ℕ) (env1 : List Bind) where
   -- the steps of trees, and arguments behind them
   pub record ArgumentForms (values : List CoreTree) : Type 0 where
-    pub names : Binds texts env0 (all_names (trees es)) env1
+    pub names : Binds texts env0 (all_sure (trees es)) env1
     pub number : length values ≡ length es
     pub drawn : n0 ≤ n1
     pub enough : n1 ≤ n0 + 500 * all_weight (trees es)
@@ -87,7 +88,7 @@ module _ (texts : Texts) (defined : List FunctionName) (es : List Tree) (n0 : �
 
   -- the steps of trees, and one value behind them; there is a variable left that may hold it
   pub record ValueForm (value : CoreTree) : Type 0 where
-    pub names : Binds texts env0 (all_names (trees es)) env1
+    pub names : Binds texts env0 (all_sure (trees es)) env1
     pub drawn : n0 ≤ n1
     pub enough : n1 + 1 ≤ n0 + 500 * all_weight (trees es)
     pub steps : Each (IsLoweredStep texts (all_depth (trees es))) added

@@ -18,10 +18,10 @@ use Rattle.ef_core.specs.Plain.{ClauseTree, StepTree, clauses, steps, trees}
 use Rattle.ef_core.specs.Scope.{IsAmong, InScope, SizesInScope, pats_vars}
 use Rattle.ef_core.specs.Tree as c
 use Rattle.ef_core.specs.Tree.{CoreTree, PatTrees}
-use Rattle.ef_forms.specs.Depth.{depth as source_depth}
-use Rattle.ef_forms.specs.Tree.{Tree, tree, any, var, end, more}
-use Rattle.ef_forms.specs.Ways.{names}
-use Rattle.ef_forms.specs.Weight.{weight}
+use Rattle.ef_forms.specs.Depth.{all_depth}
+use Rattle.ef_forms.specs.Tree.{Tree, Trees, tree, any, var, end, more}
+use Rattle.ef_forms.specs.Ways.{all_names}
+use Rattle.ef_forms.specs.Weight.{all_weight}
 use Rattle.ef_meaning.specs.Cases.{last_clause, names_of, together}
 use Rattle.ef_meaning.specs.Lowers.{env_from, params_from}
 use Rattle.ef_meaning.specs.Named.{bound_names}
@@ -40,32 +40,32 @@ pub record IsGuardOf (texts : Texts) (tests : List Test) (e : CoreTree) : Type 0
   pub in_scope : (vs : List CoreVar) (fs : List FName) → HasTested tests vs → InScope vs fs e
   pub shallow : depth e ≤ 3
 
--- Core patterns, tests and names of one pattern
-pub record IsPatternOf (texts : Texts) (p : Tree) (n : ℕ) (bound : List Bind) (made : PatTrees) (tests : List Test) (m : ℕ) (binds : List Bind) : Type 0 where
-  pub matched : KeepsPatterns texts (more p end) n bound made tests m binds
+-- Core patterns, tests and names of patterns
+pub record IsPatternsOf (texts : Texts) (ps : Trees) (n : ℕ) (bound : List Bind) (made : PatTrees) (tests : List Test) (m : ℕ) (binds : List Bind) : Type 0 where
+  pub matched : KeepsPatterns texts ps n bound made tests m binds
   pub distinct : NoneTwice (pats_vars made)
   pub binds_in_pattern : Each (λ b. IsAmong (pats_vars made) b.var) binds
   pub lefts_in_pattern : Each (λ t. IsAmong (pats_vars made) t.left) tests
   pub rights_known : Each (λ t. IsAmong (pats_vars made) t.right ⊎ IsVariableOf bound t.right) tests
   pub names_differ : NamesDiffer binds
   pub names_new : Each (λ b. held bound b.name ≡ None) binds
-  pub names_all : (y : ℕ) → bound_names (bound ++ binds) y ≡ (bound_names bound y || names p y)
+  pub names_all : (y : ℕ) → bound_names (bound ++ binds) y ≡ (bound_names bound y || all_names ps y)
   pub lowered : PatsHold (lowered texts) made
   pub readable_binds : Each (IsReadableBind texts) binds
   pub sizes : (vs : List CoreVar) (fs : List FName) → SizesInScope vs fs made
-  pub shallow : pats_depth made ≤ source_depth p
-  pub drawn : DrawsAtMost (50 * weight p) n m
+  pub shallow : pats_depth made ≤ all_depth ps
+  pub drawn : DrawsAtMost (50 * all_weight ps) n m
 
--- an error with the reason `{badmatch, Value}`, which a step puts into a variable
-pub record FailsWith (texts : Texts) (z y : CoreVar) (e : CoreTree) : Type 0 where
+-- an error with the reason `{Why, Value}`, which a step puts into a variable
+pub record FailsWith (texts : Texts) (word : List ℕ) (z y : CoreVar) (e : CoreTree) : Type 0 where
   pub match_fail : Name
-  pub badmatch : Name
+  pub why : Name
   pub match_fail_text : IsNameOf texts match_fail (codes "match_fail")
-  pub badmatch_text : IsNameOf texts badmatch (codes "badmatch")
-  pub is : e ≡ c.lets (steps (record { vars = y ∷ []; value = c.tuple (trees (c.lit (c.atom badmatch) ∷ c.var z ∷ [])) } ∷ [])) (c.primop match_fail (trees (c.var y ∷ [])))
+  pub why_text : IsNameOf texts why word
+  pub is : e ≡ c.lets (steps (record { vars = y ∷ []; value = c.tuple (trees (c.lit (c.atom why) ∷ c.var z ∷ [])) } ∷ [])) (c.primop match_fail (trees (c.var y ∷ [])))
 
--- the clause for every other value
-pub record IsLastClause (texts : Texts) (n m : ℕ) (last : ClauseTree) : Type 0 where
+-- the clause for every other value, which raises an error with this word
+pub record IsLastClause (texts : Texts) (word : List ℕ) (n m : ℕ) (last : ClauseTree) : Type 0 where
   pub always : CoreTree
   pub fails : CoreTree
   pub z : ℕ
@@ -73,7 +73,7 @@ pub record IsLastClause (texts : Texts) (n m : ℕ) (last : ClauseTree) : Type 0
   pub enough : m ≤ n + 4
   pub next : m ≡ z + 2
   pub is_guard : IsGuardOf texts [] always
-  pub is_error : FailsWith texts (Numbered z) (Numbered (z + 1)) fails
+  pub is_error : FailsWith texts word (Numbered z) (Numbered (z + 1)) fails
   pub is : last ≡ last_clause always (Numbered z ∷ []) fails
 
 -- a step that matches a variable; the step's own variables hold what the names are bound to
@@ -87,10 +87,10 @@ pub record IsMatchStep (texts : Texts) (p : Tree) (x : CoreVar) (n : ℕ) (env :
   pub matched : ℕ
   pub guarded : ℕ
   pub first : ℕ
-  pub is_pattern : IsPatternOf texts p n env made tests matched binds
+  pub is_pattern : IsPatternsOf texts (more p end) n env made tests matched binds
   pub is_guard : IsGuardOf texts tests guard
   pub guard_drawn : DrawsAtMost 2 matched guarded
-  pub is_last : IsLastClause texts guarded first last
+  pub is_last : IsLastClause texts (codes "badmatch") guarded first last
   pub drawn : m ≡ first + length binds
   pub in_range : m ≤ most_variables
   pub bound : env1 ≡ env ++ env_from first (names_of binds)

@@ -1,12 +1,13 @@
 -- Trees that can be lowered.
-use Rattle.std.specs.Prelude.{ℕ, ◌≡◌, true, List, [], ◌∷◌, codes}
+use Rattle.std.specs.Prelude.{ℕ, ◌≡◌, ◌≤◌, List, [], ◌∷◌, codes, length}
 use Rattle.ef_base.specs.Texts.{Texts}
 pub use Rattle.ef_core.specs.Lowered.{IsReadableBind}
 use Rattle.ef_forms.specs.declared.tables.FunctionName.{FunctionName}
 use Rattle.ef_forms.specs.Tree.{Tree, Trees}
-use Rattle.ef_forms.specs.Built.{IsBuiltTree, AreBuilt, IsNarrow, AreNarrow}
+use Rattle.ef_forms.specs.Built.{IsBuiltTree, AreBuilt, ArePatterns, IsNarrow, AreNarrow}
 use Rattle.ef_forms.specs.OfTable.{TreeOf, TreesOf}
-use Rattle.ef_forms.specs.Ways.{NameSet, faults, all_faults}
+use Rattle.ef_forms.specs.Plain.{ClauseTree, trees}
+use Rattle.ef_forms.specs.Ways.{NameSet, union, all_names, faults, all_faults, body_faults}
 pub use Rattle.ef_meaning.specs.Named.{bound_names}
 
 -- the tree is built, its names are of the table, and its variables are among the bound names
@@ -23,6 +24,18 @@ pub record AreReady (texts : Texts) (defined : List FunctionName) (bound : NameS
   pub of_table : TreesOf texts es
   pub no_faults : all_faults texts es (bound ∷ []) ≡ []
 
+-- a clause of one pattern, whose body can be lowered with the names of the pattern
+pub record IsReadyClause (texts : Texts) (defined : List FunctionName) (bound : NameSet) (c : ClauseTree) : Type 0 where
+  pub unguarded : c.guard ≡ []
+  pub one : length c.patterns ≡ 1
+  pub patterns : ArePatterns (trees c.patterns)
+  pub named : TreesOf texts (trees c.patterns)
+  pub some : 1 ≤ length c.body
+  pub built : AreBuilt texts defined (trees c.body)
+  pub narrow : AreNarrow (trees c.body)
+  pub of_table : TreesOf texts (trees c.body)
+  pub no_faults : body_faults texts (trees c.body) (union bound (all_names (trees c.patterns)) ∷ []) ≡ []
+
 -- the texts that are named in what trees are lowered to
 abbrev pub lower_words : List (List ℕ)
-lower_words = codes "erlang" ∷ codes "=:=" ∷ codes "true" ∷ codes "match_fail" ∷ codes "badmatch" ∷ []
+lower_words = codes "erlang" ∷ codes "=:=" ∷ codes "true" ∷ codes "match_fail" ∷ codes "badmatch" ∷ codes "case_clause" ∷ []

@@ -1,23 +1,29 @@
 // Expressions as let steps, and the value behind them.
-ghost use Rattle.std.specs.Prelude.{◌≡◌, ◌+◌, ◌*◌, ◌≤◌, IfOk, List, map};
+ghost use Rattle.std.specs.Prelude.{◌≡◌, ◌+◌, ◌*◌, ◌≤◌, ◌∷◌, [], IfOk, OnOk, List, length, map};
 ghost use Rattle.ef_core.specs.Everywhere.{Each};
 ghost use Rattle.ef_core.specs.Fresh.{most_variables};
 ghost use Rattle.ef_core.specs.Plain as core;
-ghost use Rattle.ef_forms.specs.Built.{IsAtom};
-ghost use Rattle.ef_forms.specs.Plain.{plain, plain_all};
+ghost use Rattle.ef_forms.specs.Built.{AreBuilt, AreNarrow, IsAtom};
+ghost use Rattle.ef_forms.specs.OfTable.{TreesOf};
+ghost use Rattle.ef_forms.specs.Plain.{plain, plain_all, plain_clause, plain_clauses};
 ghost use Rattle.ef_forms.specs.Tree as t;
-ghost use Rattle.ef_forms.specs.Weight.{all_weight, weight};
+ghost use Rattle.ef_forms.specs.Ways.{body_faults};
+ghost use Rattle.ef_forms.specs.Weight.{all_weight, clauses_weight, weight};
 ghost use Rattle.ef_lowpat.specs.Guards.{HoldsWords};
-ghost use Rattle.ef_lower.specs.Lowers.{Adds, Lowers, LowersAll};
-ghost use Rattle.ef_lower.specs.Ready.{AreReady, IsReadableBind, IsReady, bound_names, lower_words};
+ghost use Rattle.ef_lower.specs.Arms.{AreArms, IsArm, plain_arm};
+ghost use Rattle.ef_lower.specs.Lowers.{Adds, Lowers, LowersAll, LowersBody};
+ghost use Rattle.ef_lower.specs.Ready.{AreReady, IsReadableBind, IsReady, IsReadyClause, bound_names, lower_words};
 ghost use Rattle.ef_meaning.specs.Lowers.{AreBelow};
 
+use crate::arms::Arm;
+use crate::cases::choose;
+use crate::front::front_of;
 use crate::matches::match_value;
 use crate::nodes::{apply, atom, call, integer, list, list_to, tuple, variable};
 use crate::steps::hold;
 use ef_base::{Name, Names, NoMemory};
 use ef_core::{CoreExpr, Env, Fresh, LetStep};
-use ef_forms::{Expr, Node, Tables};
+use ef_forms::{Clause, Expr, Node, Tables};
 use std::alloc::Global;
 
 /// What is evaluated before the value goes behind the steps, from left to right, and the names of matches are bound; the
@@ -74,6 +80,12 @@ pub fn append(
             let args = append_all(alloc, names, tables, args, env, fresh, steps)?;
             Ok(call(alloc, atom_of(module), atom_of(function), args)?)
         }
+        Node::Case { arg, clauses } => {
+            let value = append(alloc, names, tables, arg, env, fresh, steps)?;
+            let held = hold(alloc, fresh, steps, value)?;
+            let arms = arms(alloc, names, tables, clauses, env, fresh)?;
+            Ok(choose(alloc, names, held, arms, env, fresh, steps)?)
+        }
     }
 }
 
@@ -101,6 +113,102 @@ fn append_all(
         values.push(hold(alloc, fresh, steps, value)?)?;
     }
     Ok(values)
+}
+
+/// The expressions before the last go behind the steps, with what is evaluated before the last, whose value is answered.
+#[cycle(append)]
+pub fn append_body(
+    alloc: Global,
+    names: &Names,
+    tables: &Tables,
+    exprs: &[Expr],
+    env: &mut Env,
+    fresh: &mut Fresh,
+    steps: &mut Vec<LetStep>,
+) -> Result<CoreExpr, NoMemory>
+    requires words { HoldsWords names.now lower_words }
+    requires some { 1 ≤ length exprs.now }
+    requires built { AreBuilt names.now tables.now.functions.items (plain_all exprs.now) }
+    requires narrow { AreNarrow (plain_all exprs.now) }
+    requires of_table { TreesOf names.now (plain_all exprs.now) }
+    requires readable { Each (IsReadableBind names.now) env.old }
+    requires no_faults { body_faults names.now (plain_all exprs.now) (bound_names env.old ∷ []) ≡ [] }
+    requires below { AreBelow fresh.old env.old }
+    requires enough { fresh.old + 500 * all_weight (plain_all exprs.now) ≤ most_variables }
+    ensures { IfOk result (λ v. LowersBody names.now tables.now.functions.items (map plain exprs.now) fresh.old env.old (map core.plain_step steps.old.items) (map core.plain_step steps.new.items) fresh.new env.new (core.plain v)) }
+{
+    let last = exprs.len() - 1;
+    for expr in &exprs[..last] {
+        let ignored = append(alloc, names, tables, expr, env, fresh, steps)?;
+        hold(alloc, fresh, steps, ignored)?;
+    }
+    Ok(append(alloc, names, tables, &exprs[last], env, fresh, steps)?)
+}
+
+// Each clause by itself: none sees the names of another, and each draws the same variables.
+#[cycle(append)]
+fn arms(
+    alloc: Global,
+    names: &Names,
+    tables: &Tables,
+    clauses: &[Clause],
+    env: &mut Env,
+    fresh: &Fresh,
+) -> Result<Vec<Arm>, NoMemory>
+    requires words { HoldsWords names.now lower_words }
+    requires ready { Each (λ c. IsReadyClause names.now tables.now.functions.items (bound_names env.old) (plain_clause c)) clauses.now }
+    requires readable { Each (IsReadableBind names.now) env.old }
+    requires below { AreBelow fresh.now env.old }
+    requires enough { fresh.now + 500 * clauses_weight (plain_clauses clauses.now) ≤ most_variables }
+    ensures same { OnOk result (env.new ≡ env.old) }
+    ensures arms { IfOk result (λ as'. AreArms names.now tables.now.functions.items fresh.now env.old (map plain_clause clauses.now) (map plain_arm as'.items)) }
+{
+    let mut arms = Vec::with_capacity(alloc, clauses.len())?;
+    for clause in clauses {
+        arms.push(arm(alloc, names, tables, clause, env, fresh)?)?;
+    }
+    Ok(arms)
+}
+
+// The names of the pattern and of the body are bound while the body is lowered.
+#[cycle(append)]
+fn arm(
+    alloc: Global,
+    names: &Names,
+    tables: &Tables,
+    clause: &Clause,
+    env: &mut Env,
+    fresh: &Fresh,
+) -> Result<Arm, NoMemory>
+    requires words { HoldsWords names.now lower_words }
+    requires ready { IsReadyClause names.now tables.now.functions.items (bound_names env.old) (plain_clause clause.now) }
+    requires readable { Each (IsReadableBind names.now) env.old }
+    requires below { AreBelow fresh.now env.old }
+    requires enough { fresh.now + 500 * clauses_weight (plain_clauses (clause.now ∷ [])) ≤ most_variables }
+    ensures same { OnOk result (env.new ≡ env.old) }
+    ensures arm { IfOk result (λ a. IsArm names.now tables.now.functions.items fresh.now env.old (plain_clause clause.now) (plain_arm a)) }
+{
+    let start = env.len();
+    let mut fresh = fresh.copy();
+    let front = front_of(alloc, names, clause, env, &mut fresh)?;
+    let mut steps = Vec::new(alloc);
+    let value = append_body(
+        alloc,
+        names,
+        tables,
+        &clause.body,
+        env,
+        &mut fresh,
+        &mut steps,
+    )?;
+    let binds = env.split_off(start)?;
+    Ok(Arm {
+        front,
+        steps,
+        value,
+        binds,
+        fresh,
+    })
 }
 
 // The name of an atom.

@@ -25,21 +25,36 @@ pub fn with_names(
     env: &Env,
     start: usize,
     fresh: &mut Fresh,
-    mut steps: Vec<LetStep>,
+    steps: Vec<LetStep>,
     value: CoreExpr,
 ) -> Result<LoweredExpr, NoMemory>
     requires { fresh.old < most_variables }
-    ensures gives { IfOk result (λ r. GivesNames (plain value) fresh.old (map plain_step steps.items) (drop start env.now) fresh.new r.exports.items (plain r.core)) }
+    ensures gives { IfOk result (λ r. GivesNames (plain value) fresh.old (map plain_step steps.items) (drop start env.now) fresh.new (plain r.core)) }
+    ensures named { IfOk result (λ r. r.exports.items ≡ cases.names_of (drop start env.now)) }
     ensures differ { IfOk result (λ r. NamesDiffer env.now) }
 {
     let binds = env.binds_from(alloc, start)?;
-    let first = beside(alloc, &binds, fresh, &mut steps, value)?;
-    let mut values = vec![in alloc; first]?;
-    push_variables(&mut values, &binds)?;
     Ok(LoweredExpr {
-        core: finish(alloc, steps, together(values))?,
+        core: giving(alloc, &binds, fresh, steps, value)?,
         exports: names_of(alloc, &binds)?,
     })
+}
+
+/// The steps, then the value and those of these names.
+pub fn giving(
+    alloc: Global,
+    binds: &[Bind],
+    fresh: &mut Fresh,
+    mut steps: Vec<LetStep>,
+    value: CoreExpr,
+) -> Result<CoreExpr, NoMemory>
+    requires { fresh.old < most_variables }
+    ensures { IfOk result (λ e. GivesNames (plain value) fresh.old (map plain_step steps.items) binds.now fresh.new (plain e)) }
+{
+    let first = beside(alloc, binds, fresh, &mut steps, value)?;
+    let mut values = vec![in alloc; first]?;
+    push_variables(&mut values, binds)?;
+    Ok(finish(alloc, steps, together(values))?)
 }
 
 // The value, which is held where the values of names are given beside it.

@@ -2,7 +2,12 @@
 #![tactic(auto)]
 
 mod append;
+mod arms;
+mod binds;
+mod cases;
 mod exports;
+mod front;
+mod last;
 mod lower;
 mod matches;
 mod nodes;

@@ -9,22 +9,22 @@ ghost use Rattle.ef_forms.specs.Built.{AreBuilt, AreNarrow, IsBuiltTree, IsNarro
 ghost use Rattle.ef_forms.specs.Depth.{all_depth, depth};
 ghost use Rattle.ef_forms.specs.OfTable.{TreeOf, TreesOf};
 ghost use Rattle.ef_forms.specs.Plain.{plain, plain_all};
-ghost use Rattle.ef_forms.specs.Ways as ways;
+ghost use Rattle.ef_forms.specs.Sure.{all_sure, sure};
 ghost use Rattle.ef_forms.specs.Ways.{body_faults, faults};
 ghost use Rattle.ef_forms.specs.Weight.{all_weight, weight};
 ghost use Rattle.ef_lowpat.specs.Guards.{HoldsWords};
 ghost use Rattle.ef_lower.specs.Exports.{IsExported};
-ghost use Rattle.ef_lower.specs.Lowers.{Draws, IsLowered, LowersBody};
+ghost use Rattle.ef_lower.specs.Lowers.{Draws, IsLowered};
 ghost use Rattle.ef_lower.specs.Ready.{IsReadableBind, bound_names, lower_words};
 ghost use Rattle.ef_lower.specs.Scope.{IsInScope};
 ghost use Rattle.ef_meaning.specs.Lowers.{AreBelow, KeepsBody};
 
-use crate::append::append;
+use crate::append::{append, append_body};
 pub use crate::exports::LoweredExpr;
 use crate::exports::with_names;
-use crate::steps::{finish, hold};
+use crate::steps::finish;
 use ef_base::{Names, NoMemory};
-use ef_core::{CoreExpr, Env, Fresh, LetStep};
+use ef_core::{CoreExpr, Env, Fresh};
 use ef_forms::{Expr, Tables};
 use std::alloc::Global;
 
@@ -51,7 +51,7 @@ pub fn expression(
     ensures lowered { IfOk result (λ r. IsLowered names.new (core.plain r.core)) }
     ensures in_scope { IfOk result (λ r. IsInScope names.old tables.now.functions.items env.now (core.plain r.core)) }
     ensures shallow { IfOk result (λ r. deep.depth (core.plain r.core) + 1 ≤ 16 * depth (plain expr.now)) }
-    ensures exports { IfOk result (λ r. IsExported env.now (ways.names (plain expr.now)) r.exports.items) }
+    ensures exports { IfOk result (λ r. IsExported env.now (sure (plain expr.now)) r.exports.items) }
     ensures drawn { IfOk result (λ r. Draws (500 * weight (plain expr.now)) fresh.old fresh.new) }
     ensures means { IfOk result (λ r. KeepsBody names.new (plain expr.now ∷ []) env.now r.exports.items (core.plain r.core)) }
 {
@@ -85,7 +85,7 @@ pub fn body(
     ensures lowered { IfOk result (λ r. IsLowered names.new (core.plain r.core)) }
     ensures in_scope { IfOk result (λ r. IsInScope names.old tables.now.functions.items env.now (core.plain r.core)) }
     ensures shallow { IfOk result (λ r. deep.depth (core.plain r.core) + 1 ≤ 16 * all_depth (plain_all exprs.now)) }
-    ensures exports { IfOk result (λ r. IsExported env.now (ways.all_names (plain_all exprs.now)) r.exports.items) }
+    ensures exports { IfOk result (λ r. IsExported env.now (all_sure (plain_all exprs.now)) r.exports.items) }
     ensures drawn { IfOk result (λ r. Draws (500 * all_weight (plain_all exprs.now)) fresh.old fresh.new) }
     ensures means { IfOk result (λ r. KeepsBody names.new (map plain exprs.now) env.now r.exports.items (core.plain r.core)) }
 {
@@ -125,33 +125,4 @@ pub fn closed_body(
     let mut steps = Vec::new(alloc);
     let value = append_body(alloc, names, tables, exprs, &mut env, fresh, &mut steps)?;
     Ok(finish(alloc, steps, value)?)
-}
-
-// The expressions before the last go behind the steps, with what is evaluated before the last.
-fn append_body(
-    alloc: Global,
-    names: &Names,
-    tables: &Tables,
-    exprs: &[Expr],
-    env: &mut Env,
-    fresh: &mut Fresh,
-    steps: &mut Vec<LetStep>,
-) -> Result<CoreExpr, NoMemory>
-    requires words { HoldsWords names.now lower_words }
-    requires some { 1 ≤ length exprs.now }
-    requires built { AreBuilt names.now tables.now.functions.items (plain_all exprs.now) }
-    requires narrow { AreNarrow (plain_all exprs.now) }
-    requires of_table { TreesOf names.now (plain_all exprs.now) }
-    requires readable { Each (IsReadableBind names.now) env.old }
-    requires no_faults { body_faults names.now (plain_all exprs.now) (bound_names env.old ∷ []) ≡ [] }
-    requires below { AreBelow fresh.old env.old }
-    requires enough { fresh.old + 500 * all_weight (plain_all exprs.now) ≤ most_variables }
-    ensures { IfOk result (λ v. LowersBody names.now tables.now.functions.items (map plain exprs.now) fresh.old env.old (map core.plain_step steps.old.items) (map core.plain_step steps.new.items) fresh.new env.new (core.plain v)) }
-{
-    let last = exprs.len() - 1;
-    for expr in &exprs[..last] {
-        let value = append(alloc, names, tables, expr, env, fresh, steps)?;
-        hold(alloc, fresh, steps, value)?;
-    }
-    Ok(append(alloc, names, tables, &exprs[last], env, fresh, steps)?)
 }

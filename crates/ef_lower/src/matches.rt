@@ -19,14 +19,14 @@ ghost use Rattle.ef_lower.specs.Ready.{lower_words};
 ghost use Rattle.ef_meaning.specs.Cases.{names_of};
 ghost use Rattle.ef_meaning.specs.Lowers.{AreBelow, env_from, params_from};
 
-use crate::steps::{finish, in_variable, put};
+use crate::binds::rename;
+use crate::last::last_clause;
+use crate::steps::in_variable;
 use crate::values::{push_variables, together};
 use ef_base::{Name, Names, NoMemory};
-use ef_core::{
-    Bind, CoreClause, CoreExpr, CoreLit, CorePat, CoreVar, Env, Fresh, LetStep, Lowered,
-};
+use ef_core::{CoreClause, CoreExpr, CoreVar, Env, Fresh, LetStep, Lowered};
 use ef_forms::{Expr, Node};
-use ef_lowpat::{draw, guard, pattern, word};
+use ef_lowpat::{guard, pattern};
 use std::alloc::Global;
 use std::slice::from_ref;
 
@@ -106,7 +106,7 @@ fn match_step(
     let lowered = pattern(alloc, names, fresh, from_ref(pat), env, env)?;
     let Lowered { pats, tests, binds } = lowered;
     let test = guard(alloc, names, fresh, &tests)?;
-    let last = last_clause(alloc, names, fresh)?;
+    let last = last_clause(alloc, names, fresh, "badmatch")?;
     let mut values = Vec::new(alloc);
     push_variables(&mut values, &binds)?;
     let first = CoreClause {
@@ -114,73 +114,11 @@ fn match_step(
         guard: test,
         body: together(values),
     };
-    let vars = rename(alloc, &binds, env, fresh)?;
+    let mut vars = Vec::new(alloc);
+    rename(&mut vars, &binds, env, fresh)?;
     let value = CoreExpr::Case {
         arg: Box::new(alloc, CoreExpr::Var(var))?,
         clauses: vec![in alloc; first, last]?,
     };
     Ok(LetStep { vars, value })
-}
-
-// The clause for every other value.
-fn last_clause(alloc: Global, names: &Names, fresh: &mut Fresh) -> Result<CoreClause, NoMemory>
-    requires words { HoldsWords names.now lower_words }
-    requires enough { fresh.old + 4 ≤ most_variables }
-    ensures { IfOk result (λ c. IsLastClause names.now fresh.old fresh.new (plain_clause c)) }
-{
-    let guard = guard(alloc, names, fresh, &[])?;
-    let other = draw(fresh);
-    let body = badmatch(alloc, names, fresh, other)?;
-    Ok(CoreClause {
-        pats: vec![in alloc; CorePat::Var(other)]?,
-        guard,
-        body,
-    })
-}
-
-// An error with the reason `{badmatch, Value}`.
-#[tactic(auto, using(ef_core::specs::Laws::plain_laws))]
-fn badmatch(
-    alloc: Global,
-    names: &Names,
-    fresh: &mut Fresh,
-    value: CoreVar,
-) -> Result<CoreExpr, NoMemory>
-    requires words { HoldsWords names.now lower_words }
-    requires enough { fresh.old + 1 ≤ most_variables }
-    ensures fails { IfOk result (λ e. FailsWith names.now value (Numbered fresh.old) (core.plain e)) }
-    ensures drawn { IfOk result (λ e. fresh.new ≡ fresh.old + 1) }
-{
-    let why = CoreExpr::Lit(CoreLit::Atom(word(names, "badmatch")));
-    let reason = CoreExpr::Tuple(vec![in alloc; why, CoreExpr::Var(value)]?);
-    let mut steps = Vec::new(alloc);
-    let var = put(alloc, fresh, &mut steps, reason)?;
-    let fail = CoreExpr::Primop {
-        name: word(names, "match_fail"),
-        args: vec![in alloc; CoreExpr::Var(var)]?,
-    };
-    Ok(finish(alloc, steps, fail)?)
-}
-
-// Variables for these names, which are bound now.
-fn rename(
-    alloc: Global,
-    binds: &[Bind],
-    env: &mut Env,
-    fresh: &mut Fresh,
-) -> Result<Vec<CoreVar>, NoMemory>
-    requires differ { NamesDiffer binds.now }
-    requires new { Each (λ b. held env.old b.name ≡ None) binds.now }
-    requires enough { fresh.old + length binds.now ≤ most_variables }
-    ensures drawn { IfOk result (λ vs. fresh.new ≡ fresh.old + length binds.now) }
-    ensures vars { IfOk result (λ vs. vs.items ≡ params_from fresh.old (names_of binds.now)) }
-    ensures bound { IfOk result (λ vs. env.new ≡ env.old ++ env_from fresh.old (names_of binds.now)) }
-{
-    let mut vars = Vec::with_capacity(alloc, binds.len())?;
-    for bind in binds {
-        let var = draw(fresh);
-        env.push(bind.name, var)?;
-        vars.push(var)?;
-    }
-    Ok(vars)
 }

@@ -148,6 +148,7 @@ fn words(alloc: Global) -> Result<Names, NoMemory>
     let _ = names.intern("true")?;
     let _ = names.intern("match_fail")?;
     let _ = names.intern("badmatch")?;
+    let _ = names.intern("case_clause")?;
     Ok(names)
 }
 

@@ -15,7 +15,7 @@ use Rattle.ef_core.specs.Scope.{ClausesInScope, InScope, IsAmong, pats_vars}
 use Rattle.ef_core.specs.Tree as c
 use Rattle.ef_core.specs.Tree.{CoreTree}
 use Rattle.ef_core.specs.WellFormed.{AreSomeClauses}
-use Rattle.ef_forms.specs.declared.expr.Clause.{Clause}
+use Rattle.ef_forms.specs.declared.expr.Clause.{Clause, out-Clause}
 use Rattle.ef_forms.specs.declared.tables.FunctionName.{FunctionName}
 use Rattle.ef_forms.specs.Depth.{clauses_depth}
 use Rattle.ef_forms.specs.Plain.{plain, plain_all, plain_clauses}
@@ -43,9 +43,9 @@ module _ (now all : Texts) (later : Extends now all) (defined : List FunctionNam
     first = is.first;
     last = is.last;
     unguarded = is.unguarded;
-    matched = patterns_later now all later (plain_all c.patterns.items) is.first [] m.pats is.tests is.last is.binds is.matched;
+    matched = patterns_later now all later (plain_all (out-Clause c).patterns.items) is.first [] m.pats is.tests is.last is.binds is.matched;
     tested = guard_later now all later is.tests m.guard is.tested;
-    followed = body_later now all later (map plain c.body.items) is.binds [] m.body is.followed;
+    followed = body_later now all later (map plain (out-Clause c).body.items) is.binds [] m.body is.followed;
     distinct = is.distinct;
     pats = pats_lowered_later now all later m.pats is.pats;
     guard = lowered_later now all later m.guard is.guard;
@@ -81,8 +81,8 @@ module _ (all : Texts) (defined : List FunctionName) where
   clauses_keep (c ∷ cs) [] are = absurd are
   clauses_keep (c ∷ cs) (m ∷ ms) are =
       let one = are.0 in
-      subst (λ g. KeepsPicks all (clause c.place (plain_all c.patterns.items) g (plain_all c.body.items) (plain_clauses cs)) [] [] (m ∷ ms)) (sym one.unguarded)
-      (picks_clause all c.place (plain_all c.patterns.items) (map plain c.body.items) one.first [] m.pats one.tests one.last one.binds [] m.guard m.body (plain_clauses cs) ms one.matched one.tested one.followed (clauses_keep cs ms are.1))
+      subst (λ g. KeepsPicks all (clause (out-Clause c).place (plain_all (out-Clause c).patterns.items) g (plain_all (out-Clause c).body.items) (plain_clauses cs)) [] [] (m ∷ ms)) (sym one.unguarded)
+      (picks_clause all (out-Clause c).place (plain_all (out-Clause c).patterns.items) (map plain (out-Clause c).body.items) one.first [] m.pats one.tests one.last one.binds [] m.guard m.body (plain_clauses cs) ms one.matched one.tested one.followed (clauses_keep cs ms are.1))
 
   -- before a last one
   module _ (last : ClauseTree) where

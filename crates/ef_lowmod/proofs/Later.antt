@@ -54,15 +54,16 @@ module _ (now all : Texts) (later : Extends now all) where
     shape_later (s.matching p e) is = (tree_later p is.0, tree_later e is.1)
     shape_later (s.call f es) is = (tree_later f is.0, trees_later es is.1)
     shape_later (s.remote m f es) is = (tree_later m is.0, tree_later f is.1, trees_later es is.2)
+    shape_later (s.case_of e cs) is = (tree_later e is.0, clauses_later cs is.1)
 
     trees_later : (es : Trees) → TreesOf now es → TreesOf all es
     trees_later s.end is = tt
     trees_later (s.more e es) is = (tree_later e is.0, trees_later es is.1)
 
-  guards_later : (gs : Guards) → GuardsOf now gs → GuardsOf all gs
-  guards_later s.no_guard is = tt
-  guards_later (s.or_guard es gs) is = (trees_later es is.0, guards_later gs is.1)
+    guards_later : (gs : Guards) → GuardsOf now gs → GuardsOf all gs
+    guards_later s.no_guard is = tt
+    guards_later (s.or_guard es gs) is = (trees_later es is.0, guards_later gs is.1)
 
-  pub clauses_later : (cs : Clauses) → ClausesOf now cs → ClausesOf all cs
-  clauses_later s.no_clauses is = tt
-  clauses_later (s.clause p ps g body cs) is = (trees_later ps is.0, guards_later g is.1, trees_later body is.2, clauses_later cs is.3)
+    pub clauses_later : (cs : Clauses) → ClausesOf now cs → ClausesOf all cs
+    clauses_later s.no_clauses is = tt
+    clauses_later (s.clause p ps g body cs) is = (trees_later ps is.0, guards_later g is.1, trees_later body is.2, clauses_later cs is.3)

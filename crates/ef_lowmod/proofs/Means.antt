@@ -8,17 +8,12 @@ use Rattle.ef_forms.specs.Built.{Each, IsBuilt, functions_in}
 use Rattle.ef_forms.specs.Plain.{plain_placed}
 use Rattle.ef_forms.specs.Tree.{FunctionTree, ModuleTree}
 use Rattle.ef_lowmod.specs.declared.info.Fixed.{Fixed}
-use Rattle.ef_lowmod.specs.Function.{HasNoFault, IsWhole, KeepsForm}
+use Rattle.ef_lowmod.specs.Function.{HasNoFault, KeepsForm}
 use Rattle.ef_lowmod.specs.Info.{AreFixed, info_def, item_def}
 use Rattle.ef_lowmod.proofs.Modules.{next_form}
-use Rattle.ef_meaning.specs.Bound.{IsBoundFunction}
 use Rattle.ef_meaning.specs.Lowers.{IsInformation, KeepDefinitions}
 use Rattle.ef_meaning.specs.Runs.{KeepsMeaning}
 use Rattle.ef_meaning.proofs.Kept.{definitions_later, module_keeps}
-
-bound_functions : (all : Texts) (fs : List FunctionTree) → Each IsWhole fs → Each (HasNoFault all) fs → Each (IsBoundFunction all) fs
-bound_functions all [] whole none = tt
-bound_functions all (f ∷ fs) whole none = ((whole.0.1, none.0), bound_functions all fs whole.1 none.1)
 
 -- ---- forms
 
@@ -63,8 +58,8 @@ module _ (all : Texts) (m : ModuleTree) (fixed : Fixed) (are : AreFixed all fixe
   }
 
   pub lowered_keeps : (t : CoreModuleTree) (functions : List DefTree) → t.defs ≡ functions ++ (info_def fixed m.name ∷ item_def fixed m.name ∷ []) → KeepDefinitions all (functions_in m.forms) functions →
-      IsBuilt all m → Each IsWhole (functions_in m.forms) → Each (HasNoFault all) (functions_in m.forms) → KeepsMeaning all m t
-  lowered_keeps t functions defs keep built whole none =
+      IsBuilt all m → Each (HasNoFault all) (functions_in m.forms) → KeepsMeaning all m t
+  lowered_keeps t functions defs keep built none =
       module_keeps all m t
       (record { functions = functions; information = info_def fixed m.name; item = item_def fixed m.name; definitions = defs; keep = keep; is_information = information_is; is_item = item_is })
-      built (bound_functions all (functions_in m.forms) whole none)
+      built none

@@ -105,8 +105,8 @@ all_ready all defined [] built narrow whole light of_table no_fault = tt
 all_ready all defined (f ∷ fs) built narrow whole light of_table no_fault = (
   record {
     name = of_table.0.0;
-    some = whole.0.0;
-    clauses = record { built = built.0.1; narrow = narrow.0; bodies = whole.0.1; of_table = of_table.0.1; no_fault = no_fault.0 };
+    some = whole.0;
+    clauses = record { built = built.0.1; narrow = narrow.0; of_table = of_table.0.1; no_fault = no_fault.0 };
     light = light.0;
   },
   all_ready all defined fs built.1 narrow.1 whole.1 light.1 of_table.1 no_fault.1,

@@ -12,7 +12,7 @@ use Rattle.ef_core.specs.Everywhere.{Each, PatsHold}
 use Rattle.ef_core.specs.Lowered.{IsLowered, lowered}
 use Rattle.ef_core.specs.Plain.{ClauseTree}
 use Rattle.ef_core.specs.Scope.{InScope, IsAmong, SizesInScope, pats_vars}
-use Rattle.ef_forms.specs.declared.expr.Clause.{Clause}
+use Rattle.ef_forms.specs.declared.expr.Clause.{Clause, out-Clause}
 use Rattle.ef_forms.specs.declared.expr.Expr.{Expr}
 use Rattle.ef_forms.specs.declared.tables.FunctionName.{FunctionName}
 use Rattle.ef_forms.specs.Depth.{all_depth}
@@ -86,7 +86,7 @@ pub record BodyFacts (now all : Texts) (defined : List FunctionName) (es : List 
   pub shallow : depth made.body + 1 ≤ 16 * all_depth (plain_all es)
 
 pub clause_lowered : (now all : Texts) (defined : List FunctionName) (c : Clause) (ps es : List Expr) (bound binds env : List Bind) (tests : List Test) (n0 n1 : ℕ) (made : ClauseTree) → Extends now all →
-    ps ≡ c.patterns.items → es ≡ c.body.items → bound ≡ [] → env ≡ binds → plain_guard c.guard.items ≡ no_guard → 1 ≤ length c.body.items →
+    ps ≡ (out-Clause c).patterns.items → es ≡ (out-Clause c).body.items → bound ≡ [] → env ≡ binds → plain_guard (out-Clause c).guard.items ≡ no_guard → 1 ≤ length (out-Clause c).body.items →
     PatternFacts now ps bound binds tests n0 n1 made → GuardFacts now tests made → BodyFacts now all defined es env made → IsLoweredClause all defined c made
 clause_lowered now all defined c ps es bound binds env tests n0 n1 made later is_ps is_es none is unguarded some pattern guard body =
     let vars = pats_vars made.pats in
@@ -98,7 +98,7 @@ clause_lowered now all defined c ps es bound binds env tests n0 n1 made later is
       first = n0;
       last = n1;
       unguarded = unguarded;
-      matched = patterns_later now all later (plain_all c.patterns.items) n0 [] made.pats tests n1 binds matched;
+      matched = patterns_later now all later (plain_all (out-Clause c).patterns.items) n0 [] made.pats tests n1 binds matched;
       tested = guard_later now all later tests made.guard guard.gives;
       followed = subst (λ l. KeepsBody all (map plain l) binds [] made.body) is_es (subst (λ e. KeepsBody all (map plain es) e [] made.body) is body.means);
       distinct = pattern.distinct;
@@ -113,8 +113,8 @@ clause_lowered now all defined c ps es bound binds env tests n0 n1 made later is
       shallow =
           let patterns = ap (λ l. all_depth (plain_all l)) is_ps in
           let bodies = ap (λ l. all_depth (plain_all l)) is_es in
-          let number = counted c.body.items in
-          let deep = some_depths (plain_all c.body.items) (omega arith) in
+          let number = counted (out-Clause c).body.items in
+          let deep = some_depths (plain_all (out-Clause c).body.items) (omega arith) in
           let p = pattern.shallow in let g = guard.shallow in let b = body.shallow in
           omega arith;
     }
@@ -123,8 +123,8 @@ clause_lowered now all defined c ps es bound binds env tests n0 n1 made later is
 
 pub record OneClause (cs : List Clause) (params : List CoreVar) (env : List Bind) (c : Clause) : Type 0 where
   pub alone : cs ≡ c ∷ []
-  pub parameters : AreParameters (plain_all c.patterns.items)
-  pub names : env ≡ own_names (plain_all c.patterns.items) params
+  pub parameters : AreParameters (plain_all (out-Clause c).patterns.items)
+  pub names : env ≡ own_names (plain_all (out-Clause c).patterns.items) params
   pub differ : NamesDiffer env
 
 one_clause : (cs : List Clause) (params : List CoreVar) (env : List Bind) (c : Clause) → HasOwnNames cs params env → c ≡ get_or cs 0 c → OneClause cs params env c

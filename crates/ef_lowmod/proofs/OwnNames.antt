@@ -11,7 +11,7 @@ use Rattle.ef_core.specs.Lowered.{IsLowered, IsReadableBind}
 use Rattle.ef_core.specs.Readable.{readable}
 use Rattle.ef_core.specs.Scope.{IsAmong}
 use Rattle.ef_core.specs.Tree.{CoreTree}
-use Rattle.ef_forms.specs.declared.expr.Clause.{Clause}
+use Rattle.ef_forms.specs.declared.expr.Clause.{Clause, out-Clause}
 use Rattle.ef_forms.specs.declared.expr.Expr.{Expr}
 use Rattle.ef_forms.specs.declared.tables.FunctionName.{FunctionName}
 use Rattle.ef_forms.specs.Depth.{all_depth, clauses_depth}
@@ -42,46 +42,46 @@ module _ (all : Texts) (defined : List FunctionName) (n : ℕ) (cs : List Clause
   pub own_ready : IsReadyClause all defined c
   own_ready = (each_ready all defined n (c ∷ []) whole).0
 
-  own_number : count (plain_all c.patterns.items) ≡ n
-  own_number = counted c.patterns.items ∙ (each_number all defined n (c ∷ []) whole).0
+  own_number : count (plain_all (out-Clause c).patterns.items) ≡ n
+  own_number = counted (out-Clause c).patterns.items ∙ (each_number all defined n (c ∷ []) whole).0
 
   own_each : (P : CoreVar → Type 0) → Each P (variables_from 0 n) → Each (λ (b : Bind). P b.var) env
   own_each P are =
-      subst (Each (λ (b : Bind). P b.var)) (sym one.names) (each_name P (plain_all c.patterns.items) params (subst (Each P) (sym first) are))
+      subst (Each (λ (b : Bind). P b.var)) (sym one.names) (each_name P (plain_all (out-Clause c).patterns.items) params (subst (Each P) (sym first) are))
 
   pub own_readable : n ≤ 2 ^ 32 → Each (IsReadableBind all) env
   own_readable few = own_each (readable all).variable (numbered_readable all 0 n (omega arith))
 
   pub own_below : AreBelow n env
   own_below =
-      subst (AreBelow n) (sym one.names) (names_below n (plain_all c.patterns.items) params (subst (Each _) (sym first) (numbered_below n 0 n (omega arith))))
+      subst (AreBelow n) (sym one.names) (names_below n (plain_all (out-Clause c).patterns.items) params (subst (Each _) (sym first) (numbered_below n 0 n (omega arith))))
 
   pub own_within : HasVariables env params
   own_within = own_each (IsAmong params) (subst (Each (IsAmong params)) first (among_themselves params))
 
-  own_set : (y : ℕ) → bound_names env y ≡ all_names (plain_all c.patterns.items) y
+  own_set : (y : ℕ) → bound_names env y ≡ all_names (plain_all (out-Clause c).patterns.items) y
   own_set y =
       let number = ap length first ∙ numbered_count 0 n in
       let few = own_number in
-      ap (λ e. bound_names e y) one.names ∙ names_bound (plain_all c.patterns.items) params y one.parameters (omega arith)
+      ap (λ e. bound_names e y) one.names ∙ names_bound (plain_all (out-Clause c).patterns.items) params y one.parameters (omega arith)
 
-  pub own_faults : body_faults all (plain_all c.body.items) (bound_names env ∷ []) ≡ []
+  pub own_faults : body_faults all (plain_all (out-Clause c).body.items) (bound_names env ∷ []) ≡ []
   own_faults =
-      let same : bound_names env ≡ all_names (plain_all c.patterns.items) = λ i y. own_set y i in
-      subst (λ s. body_faults all (plain_all c.body.items) (s ∷ []) ≡ []) (sym same) own_ready.no_fault
+      let same : bound_names env ≡ all_names (plain_all (out-Clause c).patterns.items) = λ i y. own_set y i in
+      subst (λ s. body_faults all (plain_all (out-Clause c).body.items) (s ∷ []) ≡ []) (sym same) own_ready.no_fault
 
-  pub own_weight : all_weight (plain_all c.body.items) ≤ clauses_weight (plain_clauses cs)
+  pub own_weight : all_weight (plain_all (out-Clause c).body.items) ≤ clauses_weight (plain_clauses cs)
   own_weight = let same = ap (λ l. clauses_weight (plain_clauses l)) one.alone in omega arith
 
-  pub own_body : (now : Texts) (es : List Expr) (body : CoreTree) → Extends all now → es ≡ c.body.items → KeepsBody now (map plain es) env [] body → IsLowered now body → IsInScope all defined env body → depth body + 1 ≤ 16 * all_depth (plain_all es) → IsLoweredBody now defined (plain_clauses cs) params body
+  pub own_body : (now : Texts) (es : List Expr) (body : CoreTree) → Extends all now → es ≡ (out-Clause c).body.items → KeepsBody now (map plain es) env [] body → IsLowered now body → IsInScope all defined env body → depth body + 1 ≤ 16 * all_depth (plain_all es) → IsLoweredBody now defined (plain_clauses cs) params body
   own_body now es body later same keeps lowered in_scope shallow =
-      let ps = plain_all c.patterns.items in
+      let ps = plain_all (out-Clause c).patterns.items in
       let names : env ≡ own_names ps (variables_from 0 n) = one.names ∙ ap (own_names ps) first in
-      let kept : KeepsBody now (map plain c.body.items) (own_names ps (variables_from 0 n)) [] body = subst (λ l. KeepsBody now (map plain l) (own_names ps (variables_from 0 n)) [] body) same (subst (λ e. KeepsBody now (map plain es) e [] body) names keeps) in
-      let function = parameters_keep now c.place ps n (map plain c.body.items) body one.parameters own_number (subst NamesDiffer names one.differ) kept in
-      let clauses : plain_clauses cs ≡ clause c.place ps no_guard (plain_all c.body.items) no_clauses = ap plain_clauses one.alone ∙ ap (λ g. clause c.place ps g (plain_all c.body.items) no_clauses) own_ready.unguarded in
+      let kept : KeepsBody now (map plain (out-Clause c).body.items) (own_names ps (variables_from 0 n)) [] body = subst (λ l. KeepsBody now (map plain l) (own_names ps (variables_from 0 n)) [] body) same (subst (λ e. KeepsBody now (map plain es) e [] body) names keeps) in
+      let function = parameters_keep now (out-Clause c).place ps n (map plain (out-Clause c).body.items) body one.parameters own_number (subst NamesDiffer names one.differ) kept in
+      let clauses : plain_clauses cs ≡ clause (out-Clause c).place ps no_guard (plain_all (out-Clause c).body.items) no_clauses = ap plain_clauses one.alone ∙ ap (λ g. clause (out-Clause c).place ps g (plain_all (out-Clause c).body.items) no_clauses) own_ready.unguarded in
       record {
-        keeps = subst (λ l. KeepsFunction now (by_clauses l []) params body) (sym clauses) (subst (λ vs. KeepsFunction now (by_clauses (clause c.place ps no_guard (plain_all c.body.items) no_clauses) []) vs body) (sym first) function);
+        keeps = subst (λ l. KeepsFunction now (by_clauses l []) params body) (sym clauses) (subst (λ vs. KeepsFunction now (by_clauses (clause (out-Clause c).place ps no_guard (plain_all (out-Clause c).body.items) no_clauses) []) vs body) (sym first) function);
         lowered = lowered;
         in_scope = λ fs has. in_scope params fs own_within (has_earlier all now later defined fs has);
         shallow = let deep = ap (λ l. all_depth (plain_all l)) same in let within = ap clauses_depth clauses in omega arith;

@@ -1,26 +1,26 @@
 -- Clauses that can be lowered, one by one.
-use Rattle.std.proofs.Common.{◌≡◌, ◌≤◌, ◌<◌, ◌+◌, ℕ, zero, suc, bytes_eq, codes, true, List, [], ◌∷◌, length, get_or, refl, sym, ◌∙◌, subst, arith}
+use Rattle.std.proofs.Common.{◌≡◌, ◌≤◌, ◌<◌, ◌+◌, ℕ, zero, suc, bytes_eq, codes, true, List, [], ◌∷◌, ◌++◌, length, get_or, refl, sym, ◌∙◌, subst, arith}
 use Rattle.std.specs.List.{All, list_any}
 use Rattle.ef_base.specs.Texts.{Texts, Extends, HasText}
 use Rattle.ef_base.specs.Laws.{named_later, text_among}
 use Rattle.ef_base.specs.Words.{fixed_words}
 use Rattle.ef_base.specs.declared.fault.Place.{Place}
 use Rattle.ef_core.specs.Everywhere.{Each}
-use Rattle.ef_forms.specs.declared.expr.Clause.{Clause}
+use Rattle.ef_forms.specs.declared.expr.Clause.{Clause, out-Clause}
 use Rattle.ef_forms.specs.declared.expr.Expr.{Expr}
 use Rattle.ef_forms.specs.declared.tables.FunctionName.{FunctionName}
-use Rattle.ef_forms.specs.Built.{AreBuilt, AreBuiltClauses, ArePatterns}
+use Rattle.ef_forms.specs.Built.{AreBuilt, AreBuiltClauses, ArePatterns, AreSome}
 use Rattle.ef_forms.specs.Depth.{clauses_depth}
 use Rattle.ef_forms.specs.Plain.{plain_all, plain_clauses, plain_guard}
 use Rattle.ef_forms.specs.Tree.{Clauses, Guards, Trees, clause, count, end, more, no_clauses, no_guard, or_guard}
-use Rattle.ef_forms.specs.Ways.{all_names, body_faults, clauses_faults, no_names}
+use Rattle.ef_forms.specs.Ways.{all_names, body_faults, clauses_faults, no_names, patterns_faults}
 use Rattle.ef_forms.specs.Weight.{all_weight, clauses_weight}
 use Rattle.ef_forms.proofs.Depths.{some_depths}
 use Rattle.ef_forms.proofs.Plain.{counted}
 use Rattle.ef_lower.proofs.Faults.{nothing_left, nothing_right}
 use Rattle.ef_lower.proofs.Sizes.{some_weight}
 use Rattle.ef_lowmod.specs.Clauses.{AreReadyClauses, IsReadyClause}
-use Rattle.ef_lowmod.specs.Function.{AreSome, HasWords}
+use Rattle.ef_lowmod.specs.Function.{HasWords}
 use Rattle.ef_lowpat.specs.Guards.{HoldsWords}
 
 -- ---- words
@@ -33,7 +33,7 @@ words_later now all (w ∷ words) later has = ((has.0.0, named_later now all has
 -- what functions are lowered to names fixed words
 pub fixed_hold : (texts : Texts) → All (HasText texts) fixed_words → HasWords texts
 fixed_hold texts all =
-    (at (codes "function_clause") refl, (at (codes "erlang") refl, (at (codes "=:=") refl, (at (codes "true") refl, (at (codes "match_fail") refl, (at (codes "badmatch") refl, tt))))))
+    (at (codes "function_clause") refl, (at (codes "erlang") refl, (at (codes "=:=") refl, (at (codes "true") refl, (at (codes "match_fail") refl, (at (codes "badmatch") refl, (at (codes "case_clause") refl, tt)))))))
   where
     at : (word : List ℕ) → list_any (λ w. bytes_eq w word) fixed_words ≡ true → HasText texts word
     at word found = text_among texts fixed_words word all found
@@ -52,30 +52,34 @@ record FirstParts (all : Texts) (defined : List FunctionName) (arity : ℕ) (ps 
   pub unguarded : g ≡ no_guard
   pub number : count ps ≡ arity
   pub patterns : ArePatterns ps
+  pub some : 1 ≤ count body
   pub built : AreBuilt all defined body
   pub rest : AreBuiltClauses all defined arity cs
 
 first_parts : (all : Texts) (defined : List FunctionName) (arity : ℕ) (p : Place) (ps : Trees) (g : Guards) (body : Trees) (cs : Clauses) → AreBuiltClauses all defined arity (clause p ps g body cs) → FirstParts all defined arity ps g body cs
-first_parts all defined arity p ps no_guard body cs built = record { unguarded = refl; number = built.0; patterns = built.1; built = built.2; rest = built.3 }
+first_parts all defined arity p ps no_guard body cs built = record { unguarded = refl; number = built.0; patterns = built.1; some = built.2; built = built.3; rest = built.4 }
 first_parts all defined arity p ps (or_guard es gs) body cs built = absurd built
 
 module _ (all : Texts) (defined : List FunctionName) (arity : ℕ) where
+  behind_patterns : (ps body : Trees) (cs : Clauses) → patterns_faults all ps (no_names ∷ []) ++ (body_faults all body (all_names ps ∷ []) ++ clauses_faults all cs (no_names ∷ [])) ≡ []
+      → body_faults all body (all_names ps ∷ []) ++ clauses_faults all cs (no_names ∷ []) ≡ []
+  behind_patterns ps body cs none = nothing_right (patterns_faults all ps (no_names ∷ [])) _ none
+
   behind_first : (p : Place) (ps : Trees) (g : Guards) (body : Trees) (cs : Clauses) → AreReadyClauses all defined arity (clause p ps g body cs) → AreReadyClauses all defined arity cs
   behind_first p ps g body cs ready = record {
     built = (first_parts all defined arity p ps g body cs ready.built).rest;
     narrow = ready.narrow.4;
-    bodies = ready.bodies.1;
     of_table = ready.of_table.3;
-    no_fault = nothing_right (body_faults all body (all_names ps ∷ [])) (clauses_faults all cs (no_names ∷ [])) ready.no_fault;
+    no_fault = nothing_right (body_faults all body (all_names ps ∷ [])) (clauses_faults all cs (no_names ∷ [])) (behind_patterns ps body cs ready.no_fault);
   }
 
-  first_ready : (c : Clause) (cs : Clauses) → AreReadyClauses all defined arity (clause c.place (plain_all c.patterns.items) (plain_guard c.guard.items) (plain_all c.body.items) cs) → IsReadyClause all defined c
+  first_ready : (c : Clause) (cs : Clauses) → AreReadyClauses all defined arity (clause (out-Clause c).place (plain_all (out-Clause c).patterns.items) (plain_guard (out-Clause c).guard.items) (plain_all (out-Clause c).body.items) cs) → IsReadyClause all defined c
   first_ready c cs ready =
-      let ps = plain_all c.patterns.items in
-      let body = plain_all c.body.items in
-      let parts = first_parts all defined arity c.place ps (plain_guard c.guard.items) body cs ready.built in
-      let some : 1 ≤ count body = ready.bodies.0 in
-      let number = counted c.body.items in
+      let ps = plain_all (out-Clause c).patterns.items in
+      let body = plain_all (out-Clause c).body.items in
+      let parts = first_parts all defined arity (out-Clause c).place ps (plain_guard (out-Clause c).guard.items) body cs ready.built in
+      let some : 1 ≤ count body = parts.some in
+      let number = counted (out-Clause c).body.items in
       record {
         unguarded = parts.unguarded;
         patterns = parts.patterns;
@@ -84,22 +88,22 @@ module _ (all : Texts) (defined : List FunctionName) (arity : ℕ) where
         built = parts.built;
         narrow = ready.narrow.3;
         of_table = ready.of_table.2;
-        no_fault = nothing_left (body_faults all body (all_names ps ∷ [])) (clauses_faults all cs (no_names ∷ [])) ready.no_fault;
+        no_fault = nothing_left (body_faults all body (all_names ps ∷ [])) (clauses_faults all cs (no_names ∷ [])) (behind_patterns ps body cs ready.no_fault);
       }
 
   pub each_ready : (cs : List Clause) → AreReadyClauses all defined arity (plain_clauses cs) → Each (IsReadyClause all defined) cs
   each_ready [] ready = tt
   each_ready (c ∷ cs) ready = (
     first_ready c (plain_clauses cs) ready,
-    each_ready cs (behind_first c.place (plain_all c.patterns.items) (plain_guard c.guard.items) (plain_all c.body.items) (plain_clauses cs) ready),
+    each_ready cs (behind_first (out-Clause c).place (plain_all (out-Clause c).patterns.items) (plain_guard (out-Clause c).guard.items) (plain_all (out-Clause c).body.items) (plain_clauses cs) ready),
   )
 
-  pub each_number : (cs : List Clause) → AreReadyClauses all defined arity (plain_clauses cs) → Each (λ (c : Clause). length c.patterns.items ≡ arity) cs
+  pub each_number : (cs : List Clause) → AreReadyClauses all defined arity (plain_clauses cs) → Each (λ (c : Clause). length (out-Clause c).patterns.items ≡ arity) cs
   each_number [] ready = tt
   each_number (c ∷ cs) ready =
-      let parts = first_parts all defined arity c.place (plain_all c.patterns.items) (plain_guard c.guard.items) (plain_all c.body.items) (plain_clauses cs) ready.built in (
-        sym (counted c.patterns.items) ∙ parts.number,
-        each_number cs (behind_first c.place (plain_all c.patterns.items) (plain_guard c.guard.items) (plain_all c.body.items) (plain_clauses cs) ready),
+      let parts = first_parts all defined arity (out-Clause c).place (plain_all (out-Clause c).patterns.items) (plain_guard (out-Clause c).guard.items) (plain_all (out-Clause c).body.items) (plain_clauses cs) ready.built in (
+        sym (counted (out-Clause c).patterns.items) ∙ parts.number,
+        each_number cs (behind_first (out-Clause c).place (plain_all (out-Clause c).patterns.items) (plain_guard (out-Clause c).guard.items) (plain_all (out-Clause c).body.items) (plain_clauses cs) ready),
       )
 
 -- ---- sizes
@@ -123,7 +127,7 @@ sizes all defined arity (clause p ps g body cs) some ready =
     let parts = first_parts all defined arity p ps g body cs ready.built in
     let number : count ps ≡ arity = parts.number in
     let few : count ps ≤ 255 = ready.narrow.0 in
-    let one : 1 ≤ count body = ready.bodies.0 in
+    let one : 1 ≤ count body = parts.some in
     let patterns = count_weight ps in
     let bodies = count_weight body in
     let deep = some_depths body one in

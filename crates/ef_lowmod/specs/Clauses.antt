@@ -15,7 +15,7 @@ use Rattle.ef_core.specs.Readable.{readable}
 use Rattle.ef_core.specs.Scope.{IsAmong, InScope, SizesInScope, pats_vars}
 use Rattle.ef_core.specs.Tree as c
 use Rattle.ef_core.specs.Tree.{CoreTree}
-use Rattle.ef_forms.specs.declared.expr.Clause.{Clause}
+use Rattle.ef_forms.specs.declared.expr.Clause.{Clause, out-Clause}
 use Rattle.ef_forms.specs.declared.tables.FunctionName.{FunctionName}
 use Rattle.ef_forms.specs.Built.{AreBuilt, AreBuiltClauses, AreNarrow, AreNarrowClauses, ArePatterns}
 use Rattle.ef_forms.specs.Depth.{all_depth, clauses_depth}
@@ -24,7 +24,6 @@ use Rattle.ef_forms.specs.Plain.{plain, plain_all, plain_guard}
 use Rattle.ef_forms.specs.Tree.{Clauses, no_guard}
 use Rattle.ef_forms.specs.Ways.{all_names, body_faults, clauses_faults, no_names}
 use Rattle.ef_lower.specs.Scope.{HasFunctions}
-use Rattle.ef_meaning.specs.Bound.{HaveBodies}
 use Rattle.ef_meaning.specs.Cases.{FailsFunction, last_clause}
 use Rattle.ef_meaning.specs.Lowers.{KeepsBody, KeepsFunction}
 use Rattle.ef_meaning.specs.Patterns.{IsGuard, KeepsPatterns}
@@ -34,20 +33,19 @@ use Rattle.ef_meaning.specs.Source.{by_clauses}
 pub record AreReadyClauses (all : Texts) (defined : List FunctionName) (arity : ℕ) (cs : Clauses) : Type 0 where
   pub built : AreBuiltClauses all defined arity cs
   pub narrow : AreNarrowClauses cs
-  pub bodies : HaveBodies cs
   pub of_table : ClausesOf all cs
   pub no_fault : clauses_faults all cs (no_names ∷ []) ≡ []
 
 -- the same of one clause
 pub record IsReadyClause (all : Texts) (defined : List FunctionName) (c : Clause) : Type 0 where
-  pub unguarded : plain_guard c.guard.items ≡ no_guard
-  pub patterns : ArePatterns (plain_all c.patterns.items)
-  pub named : TreesOf all (plain_all c.patterns.items)
-  pub some : 1 ≤ length c.body.items
-  pub built : AreBuilt all defined (plain_all c.body.items)
-  pub narrow : AreNarrow (plain_all c.body.items)
-  pub of_table : TreesOf all (plain_all c.body.items)
-  pub no_fault : body_faults all (plain_all c.body.items) (all_names (plain_all c.patterns.items) ∷ []) ≡ []
+  pub unguarded : plain_guard (out-Clause c).guard.items ≡ no_guard
+  pub patterns : ArePatterns (plain_all (out-Clause c).patterns.items)
+  pub named : TreesOf all (plain_all (out-Clause c).patterns.items)
+  pub some : 1 ≤ length (out-Clause c).body.items
+  pub built : AreBuilt all defined (plain_all (out-Clause c).body.items)
+  pub narrow : AreNarrow (plain_all (out-Clause c).body.items)
+  pub of_table : TreesOf all (plain_all (out-Clause c).body.items)
+  pub no_fault : body_faults all (plain_all (out-Clause c).body.items) (all_names (plain_all (out-Clause c).patterns.items) ∷ []) ≡ []
 
 -- ---- the clauses of a case
 
@@ -57,10 +55,10 @@ pub record IsLoweredClause (all : Texts) (defined : List FunctionName) (c : Clau
   pub binds : List Bind
   pub first : ℕ
   pub last : ℕ
-  pub unguarded : plain_guard c.guard.items ≡ no_guard
-  pub matched : KeepsPatterns all (plain_all c.patterns.items) first [] made.pats tests last binds
+  pub unguarded : plain_guard (out-Clause c).guard.items ≡ no_guard
+  pub matched : KeepsPatterns all (plain_all (out-Clause c).patterns.items) first [] made.pats tests last binds
   pub tested : IsGuard all tests made.guard
-  pub followed : KeepsBody all (map plain c.body.items) binds [] made.body
+  pub followed : KeepsBody all (map plain (out-Clause c).body.items) binds [] made.body
   --
   pub distinct : NoneTwice (pats_vars made.pats)
   pub pats : PatsHold (lowered all) made.pats
@@ -68,7 +66,7 @@ pub record IsLoweredClause (all : Texts) (defined : List FunctionName) (c : Clau
   pub body : IsLowered all made.body
   pub in_scope : (vs : List CoreVar) (fs : List FName) → HasFunctions all defined fs
       → SizesInScope vs fs made.pats × InScope (pats_vars made.pats ++ vs) fs made.guard × InScope (pats_vars made.pats ++ vs) fs made.body
-  pub shallow : max (pats_depth made.pats) (max (depth made.guard) (depth made.body)) + 1 ≤ 16 * max (all_depth (plain_all c.patterns.items)) (all_depth (plain_all c.body.items))
+  pub shallow : max (pats_depth made.pats) (max (depth made.guard) (depth made.body)) + 1 ≤ 16 * max (all_depth (plain_all (out-Clause c).patterns.items)) (all_depth (plain_all (out-Clause c).body.items))
 
 abbrev pub AreLoweredClauses : Texts → List FunctionName → List Clause → List ClauseTree → Type 0
 AreLoweredClauses all defined [] [] = Unit {0}

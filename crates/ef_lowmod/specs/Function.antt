@@ -11,15 +11,14 @@ use Rattle.ef_core.specs.Scope.{InScope}
 use Rattle.ef_core.specs.Tree.{DefTree}
 use Rattle.ef_core.specs.WellFormed.{Matches}
 use Rattle.ef_forms.specs.declared.tables.FunctionName.{FunctionName}
-use Rattle.ef_forms.specs.Built.{AreNarrowClauses, functions_in}
+use Rattle.ef_forms.specs.Built.{AreNarrowClauses, AreSome, functions_in}
 use Rattle.ef_forms.specs.Depth.{function_depth}
-use Rattle.ef_forms.specs.Tree.{Clauses, FunctionTree, PlacedTree, clause, no_clauses}
+use Rattle.ef_forms.specs.Tree.{FunctionTree, PlacedTree}
 use Rattle.ef_forms.specs.Ways.{function_faults}
 use Rattle.ef_forms.specs.Weight.{function_weight}
 use Rattle.ef_lower.specs.Ready.{lower_words}
 use Rattle.ef_lowmod.specs.Clauses.{AreReadyClauses}
 use Rattle.ef_lowpat.specs.Guards.{HoldsWords}
-use Rattle.ef_meaning.specs.Bound.{HaveBodies}
 use Rattle.ef_meaning.specs.Lowers.{KeepDefinitions}
 
 -- the texts that are named in what functions are lowered to
@@ -29,13 +28,9 @@ function_words = codes "function_clause" ∷ lower_words
 abbrev pub HasWords : Texts → Type 0
 HasWords all = HoldsWords all function_words
 
-abbrev pub AreSome : Clauses → Type 0
-AreSome no_clauses = ⊥
-AreSome (clause p ps g body cs) = Unit {0}
-
--- there are clauses, and no body is empty
+-- there are clauses
 abbrev pub IsWhole : FunctionTree → Type 0
-IsWhole f = AreSome f.clauses × HaveBodies f.clauses
+IsWhole f = AreSome f.clauses
 
 abbrev pub IsNarrowFunction : FunctionTree → Type 0
 IsNarrowFunction f = AreNarrowClauses f.clauses

@@ -3,7 +3,7 @@ use Rattle.std.specs.Prelude.{◌≡◌, List, [], ◌∷◌, ◌++◌}
 use Rattle.ef_core.specs.declared.env.Bind.{Bind}
 use Rattle.ef_core.specs.declared.literal.CoreVar.{CoreVar}
 use Rattle.ef_core.specs.Env.{NamesDiffer, bind}
-use Rattle.ef_forms.specs.declared.expr.Clause.{Clause}
+use Rattle.ef_forms.specs.declared.expr.Clause.{Clause, out-Clause}
 use Rattle.ef_forms.specs.Plain.{plain_all}
 use Rattle.ef_forms.specs.Tree.{Tree, Trees, tree, var, any, end, more}
 
@@ -29,5 +29,5 @@ own_names _ _ = []
 
 -- there is one clause; its patterns are variables or `_`, and these are their names, which differ
 abbrev pub HasOwnNames : List Clause → List CoreVar → List Bind → Type 0
-HasOwnNames (c ∷ []) params env = AreParameters (plain_all c.patterns.items) × (env ≡ own_names (plain_all c.patterns.items) params) × NamesDiffer env
+HasOwnNames (c ∷ []) params env = AreParameters (plain_all (out-Clause c).patterns.items) × (env ≡ own_names (plain_all (out-Clause c).patterns.items) params) × NamesDiffer env
 HasOwnNames _ params env = ⊥

@@ -6,10 +6,12 @@ ghost use Rattle.ef_core.specs.Everywhere.{Each};
 ghost use Rattle.ef_core.specs.Fresh.{DrawsAtMost, most_variables, variables_from};
 ghost use Rattle.ef_core.specs.Plain.{plain, plain_clause, plain_clauses};
 ghost use Rattle.ef_core.specs.Tree as c;
+ghost use Rattle.ef_forms.specs.declared.expr.Clause.{out-Clause};
+ghost use Rattle.ef_forms.specs.Built.{AreSome};
 ghost use Rattle.ef_forms.specs.Plain as source;
 ghost use Rattle.ef_forms.specs.Weight.{all_weight, clauses_weight};
 ghost use Rattle.ef_lowmod.specs.Clauses.{AreLoweredClauses, AreReadyClauses, IsLoweredBody, IsLoweredClause, IsReadyClause};
-ghost use Rattle.ef_lowmod.specs.Function.{AreSome, HasWords};
+ghost use Rattle.ef_lowmod.specs.Function.{HasWords};
 ghost use Rattle.ef_meaning.specs.Cases as cases;
 
 use crate::last::last_clause;
@@ -93,12 +95,12 @@ fn lower_clause(
 ) -> Result<CoreClause, NoMemory>
     requires words { HasWords names.old }
     requires ready { IsReadyClause names.old tables.now.functions.items clause.now }
-    requires enough { fresh.old + 600 * (all_weight (source.plain_all clause.now.patterns.items) + all_weight (source.plain_all clause.now.body.items)) ≤ most_variables }
+    requires enough { fresh.old + 600 * (all_weight (source.plain_all (out-Clause clause.now).patterns.items) + all_weight (source.plain_all (out-Clause clause.now).body.items)) ≤ most_variables }
     ensures kept { Extends names.old names.new }
     ensures differ { AllDiffer names.old → AllDiffer names.new }
     ensures utf8 { AllUtf8 names.old → AllUtf8 names.new }
     ensures lowered { IfOk result (λ c. IsLoweredClause names.new tables.now.functions.items clause.now (plain_clause c)) }
-    ensures drawn { IfOk result (λ c. DrawsAtMost (600 * (all_weight (source.plain_all clause.now.patterns.items) + all_weight (source.plain_all clause.now.body.items))) fresh.old fresh.new) }
+    ensures drawn { IfOk result (λ c. DrawsAtMost (600 * (all_weight (source.plain_all (out-Clause clause.now).patterns.items) + all_weight (source.plain_all (out-Clause clause.now).body.items))) fresh.old fresh.new) }
 {
     let none = Env::new(alloc);
     let lowered = pattern(alloc, names, fresh, &clause.patterns, &none, &none)?;

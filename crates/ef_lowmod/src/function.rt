@@ -6,12 +6,13 @@ ghost use Rattle.ef_core.specs.Env.{NamesDiffer};
 ghost use Rattle.ef_core.specs.Everywhere.{Each};
 ghost use Rattle.ef_core.specs.Fresh.{DrawsAtMost, most_variables, variables_from};
 ghost use Rattle.ef_core.specs.Plain.{plain, plain_def};
-ghost use Rattle.ef_forms.specs.declared.expr.Clause.{Clause};
+ghost use Rattle.ef_forms.specs.declared.expr.Clause.{Clause, out-Clause};
+ghost use Rattle.ef_forms.specs.Built.{AreSome};
 ghost use Rattle.ef_forms.specs.Plain.{plain_all, plain_clauses, plain_function};
 ghost use Rattle.ef_forms.specs.Weight.{clauses_weight};
 ghost use Rattle.ef_lower.specs.Scope.{HasFunctions};
 ghost use Rattle.ef_lowmod.specs.Clauses.{AreReadyClauses, IsLoweredBody};
-ghost use Rattle.ef_lowmod.specs.Function.{AreSome, HasWords, IsLoweredFunction, IsReadyFunction};
+ghost use Rattle.ef_lowmod.specs.Function.{HasWords, IsLoweredFunction, IsReadyFunction};
 ghost use Rattle.ef_lowmod.specs.Parameters as p;
 ghost use Rattle.ef_meaning.specs.Lowers.{KeepsDefinition};
 
@@ -79,7 +80,7 @@ fn body(
 
 // The names of the parameters, where they are those of the one clause.
 fn own_names(alloc: Global, clauses: &[Clause], params: &[CoreVar]) -> Result<Option<Env>, NoMemory>
-    requires { Each (λ (c : Clause). length c.patterns.items ≡ length params.now) clauses.now }
+    requires { Each (λ (c : Clause). length (out-Clause c).patterns.items ≡ length params.now) clauses.now }
     ensures { IfOk result (λ o. IfSome o (p.HasOwnNames clauses.now params.now)) }
 {
     match clauses {

@@ -1,6 +1,7 @@
 // Exports, a module without forms, and the parts of functions.
-ghost use Rattle.std.specs.Prelude.{◌≤◌};
+ghost use Rattle.std.specs.Prelude.{◌≤◌, IfOk};
 ghost use Rattle.ef_base.specs.Texts.{HasName};
+ghost use Rattle.ef_lowmod.specs.Function.{HasWords};
 
 use crate::exports::exports;
 use crate::function::names_of;
@@ -8,7 +9,7 @@ use crate::info::fixed_names;
 use crate::last::last_clause;
 use crate::lower;
 use crate::module::keep_words;
-use ef_base::{FaultList, Name, Names, Place};
+use ef_base::{FaultList, Name, Names, NoMemory, Place};
 use ef_core::{CoreClause, CoreExpr, CoreModule, CoreVar, FName, Fresh};
 use ef_forms::{Expr, FunctionName, Module, Node, Tables};
 use std::alloc::Global;
@@ -103,15 +104,22 @@ fn different_variables_and_wildcards_need_no_case(rt: HostRuntime) -> Result<(),
     Ok(())
 }
 
+// A table of the words that are named.
+fn words(alloc: Global) -> Result<Names, NoMemory>
+    ensures { IfOk result (λ names. HasWords names) }
+{
+    let mut names = Names::new(alloc);
+    keep_words(&mut names)?;
+    Ok(names)
+}
+
 // The last clause for so many values.
 fn last(alloc: Global, count: usize) -> Result<CoreClause, Fail>
     requires { count ≤ 2 }
 {
-    let mut names = Names::new(alloc);
-    keep_words(&mut names).ok().ok_or("memory")?;
+    let names = words(alloc)?;
     let mut fresh = Fresh::new();
-    let clause = last_clause(alloc, &names, &mut fresh, count).ok();
-    Ok(clause.ok_or("memory")?)
+    Ok(last_clause(alloc, &names, &mut fresh, count)?)
 }
 
 #[test]

@@ -1,8 +1,8 @@
-use Rattle.std.proofs.Common.{◌≡◌, ◌==◌, true, false, sym, ◌∙◌, ap, length, vec_len, arith, subst}
+use Rattle.std.proofs.Common.{◌≡◌, ◌==◌, true, false, sym, ◌∙◌, length, vec_len, arith, subst}
 use Rattle.std.proofs.lemmas.Bool.Decides.{nat_tests}
 use Rattle.ef_core.specs.Normal.{AreLits}
 use Rattle.ef_core.specs.Plain.{plain_all}
-use Rattle.ef_lower.proofs.Literals.{list_to_node, list_to_said, no_items}
+use Rattle.ef_lower.proofs.Literals.{list_to_node, list_to_said}
 use Rattle.ef_lower.proofs.nodes.list_to.Goals.{else-is_literal-via-then-is_literal+else-are_literals, else-is_literal-via-else-is_literal}
 use Rattle.ef_lower.proofs.nodes.list_to.Goals as goal
 

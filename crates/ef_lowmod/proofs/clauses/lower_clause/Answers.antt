@@ -1,5 +1,6 @@
 use Rattle.std.proofs.Common.{◌≡◌, [], ◌∷◌, sym, ap, ◌∙◌, subst, arith}
 use Rattle.ef_core.specs.Plain.{plain}
+use Rattle.ef_forms.specs.declared.expr.Clause.{out-Clause}
 use Rattle.ef_forms.specs.Plain.{plain_all}
 use Rattle.ef_forms.specs.Ways.{all_names, body_faults}
 use Rattle.ef_forms.specs.Weight.{all_weight}
@@ -13,7 +14,7 @@ use Rattle.ef_lowmod.proofs.clauses.lower_clause.Goals as goal
 pub guard-requires-clause-enough : goal.guard-requires-clause-enough
 guard-requires-clause-enough c =
     let patterns = ap (λ l. all_weight (plain_all l)) c.deref.ensures.value in
-    let bodies = some_weights c.args.clause.now.body.items c.requires.ready.some in
+    let bodies = some_weights (out-Clause c.args.clause.now).body.items c.requires.ready.some in
     let drawn = c.in_ok-lowered.ensures.drawn in
     let enough = c.requires.enough in
     omega arith
@@ -22,7 +23,7 @@ pub closed_body-requires-clause-no_faults : goal.closed_body-requires-clause-no_
 closed_body-requires-clause-no_faults c =
     let names = names_alone c.new-none.result c.in_ok-lowered.lowered.binds.items c.in_ok-env.env (all_names (plain_all c.deref.result.now)) c.new-none.ensures (c.in_ok-env.ensures ∙ c.deref-3.ensures.value) c.in_ok-lowered.ensures.names_all ∙ ap (λ l. all_names (plain_all l)) c.deref.ensures.value in
     subst (λ l. body_faults c.args.names.now (plain_all l) (bound_names c.in_ok-env.env ∷ []) ≡ []) (sym c.deref-4.ensures.value)
-    (subst (λ s. body_faults c.args.names.now (plain_all c.args.clause.now.body.items) (s ∷ []) ≡ []) (sym names) c.requires.ready.no_fault)
+    (subst (λ s. body_faults c.args.names.now (plain_all (out-Clause c.args.clause.now).body.items) (s ∷ []) ≡ []) (sym names) c.requires.ready.no_fault)
 
 pub closed_body-requires-clause-below : goal.closed_body-requires-clause-below
 closed_body-requires-clause-below c =
@@ -32,7 +33,7 @@ pub closed_body-requires-clause-enough : goal.closed_body-requires-clause-enough
 closed_body-requires-clause-enough c =
     let patterns = ap (λ l. all_weight (plain_all l)) c.deref.ensures.value in
     let same = ap (λ l. all_weight (plain_all l)) c.deref-4.ensures.value in
-    let bodies = some_weights c.args.clause.now.body.items c.requires.ready.some in
+    let bodies = some_weights (out-Clause c.args.clause.now).body.items c.requires.ready.some in
     let first = c.in_ok-lowered.ensures.drawn in
     let second = c.in_ok-guard.ensures.drawn in
     let enough = c.requires.enough in
@@ -62,7 +63,7 @@ pub returns-clause-drawn : goal.returns-clause-drawn
 returns-clause-drawn c =
     let patterns = ap (λ l. all_weight (plain_all l)) c.deref.ensures.value in
     let same = ap (λ l. all_weight (plain_all l)) c.deref-4.ensures.value in
-    let bodies = some_weights c.args.clause.now.body.items c.requires.ready.some in
+    let bodies = some_weights (out-Clause c.args.clause.now).body.items c.requires.ready.some in
     let first = c.in_ok-lowered.ensures.drawn in
     let second = c.in_ok-guard.ensures.drawn in
     let third = c.in_ok-body.ensures.drawn in

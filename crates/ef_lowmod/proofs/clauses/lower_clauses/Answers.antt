@@ -18,6 +18,9 @@ pub lower_clause-requires-clause-ready : goal.lower_clause-requires-clause-ready
 lower_clause-requires-clause-ready c =
     each_at (IsReadyClause c.loop-clause.names c.args.tables.now.functions.items) c.args.clauses.now _ _ (c.requires.ready c.loop-clause.names c.loop-clause.invariant.kept) c.loop-clause-test.true c.clause-item.is
 
+pub returns-in_err-lower_clause-clause-differ : goal.returns-in_err-lower_clause-clause-differ
+returns-in_err-lower_clause-clause-differ c = λ given. c.lower_clause.ensures.differ (c.loop-clause.invariant.differ given)
+
 pub returns-in_err-push-clause-differ : goal.returns-in_err-push-clause-differ
 returns-in_err-push-clause-differ c = λ given. c.in_ok-lower_clause.ensures.differ (c.loop-clause.invariant.differ given)
 

@@ -78,4 +78,4 @@ returns-clause-means c = λ all later.
     let defs = two_more _ _ _ _ _ _ _ c.in_ok-push.ensures.items c.in_ok-push-2.ensures.items c.in_ok-info.ensures c.in_ok-item.ensures in
     let keep = subst (λ l. KeepDefinitions c.lower_functions.new.names (functions_in (map plain_placed l)) functions) c.deref-2.ensures.value c.in_ok-defs.ensures.means in
     lowered_keeps all (plain_module c.args.module.now) fixed (c.in_ok-fixed.ensures.fixed all from_fixed) _ functions defs
-    (definitions_later _ all _ functions later keep) (c.requires.built all whole) c.requires.whole (c.requires.no_fault all whole)
+    (definitions_later _ all _ functions later keep) (c.requires.built all whole) (c.requires.no_fault all whole)

@@ -12,12 +12,11 @@ use Rattle.ef_token.specs.declared.token.ScannedForm.{ScannedForm}
 use Rattle.ef_scan.specs.Scan.{Form, Scans, ScansTo, IsScanned, AreOf}
 use Rattle.ef_forms.specs.Tree.{Trees, Clauses, FunctionTree, FormTree, PlacedTree, ModuleTree, module_name, export, function, count}
 use Rattle.ef_forms.specs.Weight.{function_weight}
-use Rattle.ef_forms.specs.Built.{Each, IsBuilt, functions_in, functions_of}
+use Rattle.ef_forms.specs.Built.{AreSome, Each, IsBuilt, functions_in, functions_of}
 use Rattle.ef_parse.specs.Grammar.{SpellsSome, SpellsClause, SpellsClauses, one, and_more, a_clause, one_clause, and_clauses}
 use Rattle.ef_module.specs.Forms.{SpellsForm, SpellsForms, SpellsModule, IsNarrowForm, a_module_name, an_export, a_function}
 use Rattle.ef_module.specs.Read.{ReadsModule}
-use Rattle.ef_lowmod.specs.Function.{AreSome, IsLight, IsNarrowFunction, IsWhole, HasNoFault}
-use Rattle.ef_meaning.specs.Bound.{HaveBodies}
+use Rattle.ef_lowmod.specs.Function.{IsLight, IsNarrowFunction, IsWhole, HasNoFault}
 use Rattle.ef_front.specs.declared.compiling.Compiled.{Compiled}
 use Rattle.ef_front.specs.declared.compiling.Compiled.TheVariants.{Module, Faulty}
 use Rattle.ef_front.specs.Source.{IsSource, HasFaults, blank, faulty_forms, of_module, not_built, faults_in, module_faults, forms_faults, form_faults, at_start}
@@ -31,17 +30,6 @@ use Rattle.ef_front.proofs.Taken.{faults_taken, set_none}
 
 -- ---- what a spelled module has
 
-not_none : (all : Texts) (es : Trees) (d : ℕ) (ts : List Token) → SpellsSome all es d ts → 1 ≤ count es
-not_none all es d ts (one e k d' ts' h) = omega arith
-not_none all es d ts (and_more e es' k d' g p ts' us h hs) = omega arith
-
-has_body : (all : Texts) (n : Name) (p : Place) (ps es : Trees) (d : ℕ) (ts : List Token) → SpellsClause all n p ps es d ts → 1 ≤ count es
-has_body all n p ps es d ts (a_clause n' ps' es' d' g p' q r s xs ys h hs) = not_none all es' g ys hs
-
-have_bodies : (all : Texts) (n : Name) (cs : Clauses) (d : ℕ) (ts : List Token) → SpellsClauses all n cs d ts → HaveBodies cs
-have_bodies all n cs d ts (one_clause n' p ps es d' ts' h) = (has_body all n' p ps es d' ts' h, tt)
-have_bodies all n cs d ts (and_clauses n' p ps es cs' d' g q ts' us h hs) = (has_body all n' p ps es d' ts' h, have_bodies all n' cs' g us hs)
-
 form_narrow : (all : Texts) (f : FormTree) (ts : List Token) → SpellsForm all f ts → IsNarrowForm f → Each IsNarrowFunction (functions_of f)
 form_narrow all f ts (a_module_name m n p q r s t u at) narrow = tt
 form_narrow all f ts (an_export m fs p q r s t u v ts' at h) narrow = tt
@@ -54,7 +42,7 @@ are_some all n cs d ts (and_clauses n' p ps es cs' d' g q ts' us h hs) = tt
 form_whole : (all : Texts) (f : FormTree) (ts : List Token) → SpellsForm all f ts → Each IsWhole (functions_of f)
 form_whole all f ts (a_module_name m n p q r s t u at) = tt
 form_whole all f ts (an_export m fs p q r s t u v ts' at h) = tt
-form_whole all f ts (a_function n cs d p ts' h le) = ((are_some all n cs d ts' h, have_bodies all n cs d ts' h), tt)
+form_whole all f ts (a_function n cs d p ts' h le) = (are_some all n cs d ts' h, tt)
 
 forms_narrow : (all : Texts) (fs : List PlacedTree) (tss : List (List Token)) → SpellsForms all fs tss → Each IsNarrowFunction (functions_in fs)
 forms_narrow all [] [] spelled = tt

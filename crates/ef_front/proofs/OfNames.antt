@@ -8,9 +8,9 @@ use Rattle.ef_token.specs.declared.token.Token.{Token}
 use Rattle.ef_scan.specs.Scan.{joined}
 use Rattle.ef_forms.specs.declared.form.FunctionRef.{FunctionRef}
 use Rattle.ef_forms.specs.declared.tables.FunctionName.{FunctionName}
-use Rattle.ef_forms.specs.Tree.{Tree, Shape, Trees, Clauses, FunctionTree, FormTree, PlacedTree, tree, int, atom, var, any, list, list_to, tuple, matching, call, remote, end, more, no_clauses, clause, module_name, export, function}
+use Rattle.ef_forms.specs.Tree.{Tree, Shape, Trees, Clauses, FunctionTree, FormTree, PlacedTree, tree, int, atom, var, any, list, list_to, tuple, matching, call, remote, case_of, end, more, no_clauses, clause, module_name, export, function}
 use Rattle.ef_forms.specs.Built.{Each, name_of, key_of, functions_of, functions_in, exports_of, exports_in, defined_in}
-use Rattle.ef_parse.specs.Grammar.{Spells, SpellsAll, SpellsSome, SpellsClause, SpellsClauses, max_level, a_variable, an_underscore, an_atom, an_integer, parentheses, a_list, a_list_to, a_tuple, a_match, a_call, a_remote, nothing, some, one, and_more, a_clause, one_clause, and_clauses}
+use Rattle.ef_parse.specs.Grammar.{Spells, SpellsAll, SpellsSome, SpellsBranch, SpellsBranches, SpellsClause, SpellsClauses, max_level, a_variable, an_underscore, an_atom, an_integer, parentheses, a_list, a_list_to, a_tuple, a_match, a_call, a_remote, a_case, nothing, some, one, and_more, a_branch, one_branch, and_branches, a_clause, one_clause, and_clauses}
 use Rattle.ef_base.specs.Texts.{Texts}
 use Rattle.ef_module.specs.Forms.{SpellsReference, SpellsReferences, SpellsReferenceList, a_reference, SpellsForm, SpellsForms, a_module_name, an_export, a_function}
 use Rattle.ef_module.specs.Forms as forms
@@ -40,14 +40,15 @@ module _ (Q : Name → Type 0) where
     ShapeOf (matching p e) = TreeOf p × TreeOf e
     ShapeOf (call f es) = TreeOf f × TreesOf es
     ShapeOf (remote m f es) = TreeOf m × TreeOf f × TreesOf es
+    ShapeOf (case_of e cs) = TreeOf e × ClausesOf cs
 
     pub TreesOf : Trees → Type 0
     TreesOf end = Unit {0}
     TreesOf (more e es) = TreeOf e × TreesOf es
 
-  abbrev pub ClausesOf : Clauses → Type 0
-  ClausesOf no_clauses = Unit {0}
-  ClausesOf (clause p ps g body cs) = TreesOf ps × TreesOf body × ClausesOf cs
+    pub ClausesOf : Clauses → Type 0
+    ClausesOf no_clauses = Unit {0}
+    ClausesOf (clause p ps g body cs) = TreesOf ps × TreesOf body × ClausesOf cs
 
   abbrev pub FunctionOf : FunctionTree → Type 0
   FunctionOf f = Q f.name × ClausesOf f.clauses
@@ -93,6 +94,8 @@ module _ (Q : Name → Type 0) where
           (tree_of f max_level d' fs s (first fs _ h), trees_of args g xs ss (first xs _ (second fs _ h).1))
       tree_of e k d ts (a_remote m f args c d' g p q r ms fs xs s s' ss) h =
           (tree_of m max_level c ms s (first ms _ h), tree_of f max_level d' fs s' (first fs _ (second ms _ h).1), trees_of args g xs ss (first xs _ (second fs _ (second ms _ h).1).1))
+      tree_of e k d ts (a_case e' cs k' d' g p q r us bs s ss) h =
+          (tree_of e' k' d' us s (first us _ h.1), branches_of cs g bs ss (first bs _ (second us _ h.1).1))
 
       trees_of : (es : Trees) (d : ℕ) (ts : List Token) → SpellsAll all es d ts → TokensOf ts → TreesOf es
       trees_of es d ts nothing h = tt
@@ -102,6 +105,14 @@ module _ (Q : Name → Type 0) where
       some_of es d ts (one e k d' ts' s) h = (tree_of e k d' ts' s h, tt)
       some_of es d ts (and_more e es' k d' g p ts' us s ss) h =
           (tree_of e k d' ts' s (first ts' _ h), some_of es' g us ss (second ts' _ h).1)
+
+      branch_of : (p : Place) (ps es : Trees) (d : ℕ) (ts : List Token) → SpellsBranch all p ps es d ts → TokensOf ts → TreesOf ps × TreesOf es
+      branch_of p ps es d ts (a_branch l es' k c g q ls ys s ss) h = ((tree_of l k c ls s (first ls _ h), tt), some_of es' g ys ss (second ls _ h).1)
+
+      branches_of : (cs : Clauses) (d : ℕ) (ts : List Token) → SpellsBranches all cs d ts → TokensOf ts → ClausesOf cs
+      branches_of cs d ts (one_branch p ps es d' ts' s) h = let here = branch_of p ps es d' ts' s h in (here.0, here.1, tt)
+      branches_of cs d ts (and_branches p ps es cs' d' g q ts' us s ss) h =
+          let here = branch_of p ps es d' ts' s (first ts' _ h) in (here.0, here.1, branches_of cs' g us ss (second ts' _ h).1)
 
     clause_of : (n : Name) (p : Place) (ps es : Trees) (d : ℕ) (ts : List Token) → SpellsClause all n p ps es d ts → TokensOf ts → Q n × TreesOf ps × TreesOf es
     clause_of n p ps es d ts (a_clause n' ps' es' c g p' q r s xs ys ss ss') h =

@@ -1,13 +1,13 @@
 -- A module that is built is built under other names of the same texts.
-use Rattle.std.proofs.Common.{◌≡◌, inl, inr, ℕ, List, [], ◌∷◌, ◌++◌, refl, sym, ap, ap₂, ◌∙◌, subst, subst₂, map}
+use Rattle.std.proofs.Common.{◌≡◌, ◌≤◌, inl, inr, ℕ, List, [], ◌∷◌, ◌++◌, refl, sym, ap, ap₂, ◌∙◌, subst, subst₂, map}
 use Rattle.std.proofs.lemmas.List.{map-append}
 use Rattle.ef_base.specs.declared.name.Name.{Name}
 use Rattle.ef_base.specs.Texts.{Texts, AllDiffer, text}
 use Rattle.ef_base.specs.Laws.{same_name}
 use Rattle.ef_forms.specs.declared.form.FunctionRef.{FunctionRef}
 use Rattle.ef_forms.specs.declared.tables.FunctionName.{FunctionName}
-use Rattle.ef_forms.specs.Tree.{Tree, Shape, Trees, Clauses, FunctionTree, FormTree, PlacedTree, ModuleTree, tree, int, atom, var, any, list, list_to, tuple, matching, call, remote, end, more, no_guard, or_guard, no_clauses, clause, module_name, export, function, count}
-use Rattle.ef_forms.specs.Built.{Each, IsAmong, IsDistinct, IsDefined, IsModuleInfo, IsCallOf, IsForeignModule, IsAtom, IsPattern, IsPatternShape, ArePatterns, IsBuiltTree, IsBuiltShape, AreBuilt, AreBuiltClauses, IsBuiltFunction, IsBuilt, name_of, key_of, functions_of, functions_in, exports_of, exports_in, defined_in}
+use Rattle.ef_forms.specs.Tree.{Tree, Shape, Trees, Clauses, FunctionTree, FormTree, PlacedTree, ModuleTree, tree, int, atom, var, any, list, list_to, tuple, matching, call, remote, case_of, end, more, no_guard, or_guard, no_clauses, clause, module_name, export, function, count}
+use Rattle.ef_forms.specs.Built.{Each, IsAmong, IsDistinct, IsDefined, IsModuleInfo, IsCallOf, IsForeignModule, IsAtom, IsPattern, IsPatternShape, ArePatterns, IsBuiltTree, IsBuiltShape, AreBuilt, AreBuiltClauses, AreSome, IsBuiltFunction, IsBuilt, name_of, key_of, functions_of, functions_in, exports_of, exports_in, defined_in}
 use Rattle.ef_front.proofs.Renaming.{renamed, renamed_shape, renamed_all, renamed_clauses, renamed_function, renamed_reference, renamed_key, renamed_form, renamed_placed, renamed_module, Keeps, same_count}
 use Rattle.ef_front.proofs.OfNames.{TreeOf, ShapeOf, TreesOf, ClausesOf, FunctionOf, KeyOf, FormsOf, all_functions, all_defined, all_exports}
 
@@ -102,6 +102,7 @@ module _ (a b : Texts) (r : Name → Name) (differ : AllDiffer b) where
   call_of defined (tree p (matching l e)) n k h = absurd h
   call_of defined (tree p (call f es)) n k h = absurd h
   call_of defined (tree p (remote m f es)) n k h = absurd h
+  call_of defined (tree p (case_of e cs)) n k h = absurd h
 
   foreign : (f : Tree) → TreeOf (Keeps a b r) f → IsForeignModule b f → IsForeignModule a (renamed r f)
   foreign (tree p (atom m)) k h = λ e. h (sym k.same ∙ e)
@@ -114,6 +115,7 @@ module _ (a b : Texts) (r : Name → Name) (differ : AllDiffer b) where
   foreign (tree p (matching l e)) k h = absurd h
   foreign (tree p (call f es)) k h = absurd h
   foreign (tree p (remote m f es)) k h = absurd h
+  foreign (tree p (case_of e cs)) k h = absurd h
 
   is_atom : (f : Tree) → IsAtom f → IsAtom (renamed r f)
   is_atom (tree p (atom m)) h = tt
@@ -126,6 +128,7 @@ module _ (a b : Texts) (r : Name → Name) (differ : AllDiffer b) where
   is_atom (tree p (matching l e)) h = absurd h
   is_atom (tree p (call f es)) h = absurd h
   is_atom (tree p (remote m f es)) h = absurd h
+  is_atom (tree p (case_of e cs)) h = absurd h
 
   mutual
     pattern : (e : Tree) → IsPattern e → IsPattern (renamed r e)
@@ -142,10 +145,15 @@ module _ (a b : Texts) (r : Name → Name) (differ : AllDiffer b) where
     pattern_shape (matching p e) h = absurd h
     pattern_shape (call f es) h = absurd h
     pattern_shape (remote m f es) h = absurd h
+    pattern_shape (case_of e cs) h = absurd h
 
     patterns : (es : Trees) → ArePatterns es → ArePatterns (renamed_all r es)
     patterns end h = tt
     patterns (more e es) h = (pattern e h.0, patterns es h.1)
+
+  some_renamed : (cs : Clauses) → AreSome cs → AreSome (renamed_clauses r cs)
+  some_renamed no_clauses h = absurd h
+  some_renamed (clause p ps g body cs) h = tt
 
   module _ (defined : List FunctionName) where
     mutual
@@ -164,16 +172,17 @@ module _ (a b : Texts) (r : Name → Name) (differ : AllDiffer b) where
       built_shape (call f es) k h =
           (subst (IsCallOf a (map (renamed_key r) defined) (renamed r f)) (sym (same_count r es)) (call_of defined f (count es) k.0 h.0), built_all es k.1 h.1)
       built_shape (remote m f es) k h = (foreign m k.0 h.0, is_atom f h.1, built_all es k.2 h.2)
+      built_shape (case_of e cs) k h = (built e k.0 h.0, some_renamed cs h.1, built_clauses 1 cs k.1 h.2)
 
       built_all : (es : Trees) → TreesOf (Keeps a b r) es → AreBuilt b defined es → AreBuilt a (map (renamed_key r) defined) (renamed_all r es)
       built_all end k h = tt
       built_all (more e es) k h = (built e k.0 h.0, built_all es k.1 h.1)
 
-    built_clauses : (arity : ℕ) (cs : Clauses) → ClausesOf (Keeps a b r) cs → AreBuiltClauses b defined arity cs → AreBuiltClauses a (map (renamed_key r) defined) arity (renamed_clauses r cs)
-    built_clauses arity no_clauses k h = tt
-    built_clauses arity (clause p ps (or_guard es gs) body cs) k h = absurd h
-    built_clauses arity (clause p ps no_guard body cs) k h =
-        (same_count r ps ∙ h.0, patterns ps h.1, built_all body k.1 h.2, built_clauses arity cs k.2 h.3)
+      built_clauses : (arity : ℕ) (cs : Clauses) → ClausesOf (Keeps a b r) cs → AreBuiltClauses b defined arity cs → AreBuiltClauses a (map (renamed_key r) defined) arity (renamed_clauses r cs)
+      built_clauses arity no_clauses k h = tt
+      built_clauses arity (clause p ps (or_guard es gs) body cs) k h = absurd h
+      built_clauses arity (clause p ps no_guard body cs) k h =
+          (same_count r ps ∙ h.0, patterns ps h.1, subst (λ n. 1 ≤ n) (sym (same_count r body)) h.2, built_all body k.1 h.3, built_clauses arity cs k.2 h.4)
 
     built_functions : (fs : List FunctionTree) → Each (FunctionOf (Keeps a b r)) fs → Each (IsBuiltFunction b defined) fs → Each (IsBuiltFunction a (map (renamed_key r) defined)) (map (renamed_function r) fs)
     built_functions [] k h = tt

@@ -1,13 +1,13 @@
 -- A module under other names of the same texts has the same faults.
-use Rattle.std.proofs.Common.{◌≡◌, ◌==◌, ◌||◌, ℕ, Bool, true, false, if◌then◌else◌, List, [], ◌∷◌, ◌++◌, refl, sym, ap, ap₂, map}
+use Rattle.std.proofs.Common.{◌≡◌, ◌==◌, ◌||◌, ◌&&◌, ℕ, Bool, true, false, if◌then◌else◌, List, [], ◌∷◌, ◌++◌, refl, sym, ap, ap₂, map}
 use Rattle.std.specs.List.{flat_map}
 use Rattle.std.proofs.lemmas.Bool.Decides.{Decides-eqb}
 use Rattle.ef_base.specs.declared.fault.Place.{Place}
 use Rattle.ef_base.specs.declared.fault.Fault.{Fault}
 use Rattle.ef_base.specs.declared.name.Name.{Name}
 use Rattle.ef_base.specs.Texts.{Texts, AllDiffer}
-use Rattle.ef_forms.specs.Tree.{Tree, Shape, Trees, Clauses, FormTree, PlacedTree, tree, int, atom, var, any, list, list_to, tuple, matching, call, remote, end, more, no_clauses, clause, module_name, export, function}
-use Rattle.ef_forms.specs.Ways.{NameSet, Way, no_names, one_name, union, bind, before, beside, ways, shape_ways, side_by_side, names, shape_names, all_names, on_some, use_faults, faults, shape_faults, all_faults, body_faults, clauses_faults}
+use Rattle.ef_forms.specs.Tree.{Tree, Shape, Trees, Clauses, FormTree, PlacedTree, tree, int, atom, var, any, list, list_to, tuple, matching, call, remote, case_of, end, more, no_clauses, clause, module_name, export, function}
+use Rattle.ef_forms.specs.Ways.{NameSet, Way, no_names, one_name, union, bind, or_else, before, beside, ways, shape_ways, side_by_side, body_ways, clauses_ways, names, shape_names, all_names, clauses_names, on_some, on_all, use_faults, name_faults, pattern_faults, pattern_shape_faults, patterns_faults, pattern_clauses_faults, faults, shape_faults, all_faults, body_faults, clauses_faults}
 use Rattle.ef_front.specs.Source.{form_faults, forms_faults}
 use Rattle.ef_front.proofs.Renaming.{Keeps, renamed, renamed_shape, renamed_all, renamed_clauses, renamed_form, renamed_placed}
 use Rattle.ef_front.proofs.OfNames.{TreeOf, ShapeOf, TreesOf, ClausesOf, FormOf, FormsOf}
@@ -71,6 +71,9 @@ module _ (a b : Texts) (r : Name → Name) (differ : AllDiffer b) where
   alike_before : (f g h k : Way) → WaysAlike f g → WaysAlike h k → WaysAlike (before f h) (before g k)
   alike_before f g h k one two = λ s t e. alike_flat h k (f s) (g t) two (one s t e)
 
+  alike_or_else : (f g h k : Way) → WaysAlike f g → WaysAlike h k → WaysAlike (or_else f h) (or_else g k)
+  alike_or_else f g h k one two = λ s t e. alike_append (f s) (g t) (h s) (k t) (one s t e) (two s t e)
+
   mutual
     names_alike : (e : Tree) → TreeOf (Keeps a b r) e → Alike (names (renamed r e)) (names e)
     names_alike (tree p e) k = shape_names_alike e k
@@ -90,11 +93,19 @@ module _ (a b : Texts) (r : Name → Name) (differ : AllDiffer b) where
     shape_names_alike (remote m f es) k =
         alike_union (names (renamed r m)) (names m) (union (names (renamed r f)) (all_names (renamed_all r es))) (union (names f) (all_names es)) (names_alike m k.0)
         (alike_union (names (renamed r f)) (names f) (all_names (renamed_all r es)) (all_names es) (names_alike f k.1) (all_names_alike es k.2))
+    shape_names_alike (case_of e cs) k =
+        alike_union (names (renamed r e)) (names e) (clauses_names (renamed_clauses r cs)) (clauses_names cs) (names_alike e k.0) (clauses_names_alike cs k.1)
 
     all_names_alike : (es : Trees) → TreesOf (Keeps a b r) es → Alike (all_names (renamed_all r es)) (all_names es)
     all_names_alike end k = λ n l. refl
     all_names_alike (more e es) k =
         alike_union (names (renamed r e)) (names e) (all_names (renamed_all r es)) (all_names es) (names_alike e k.0) (all_names_alike es k.1)
+
+    clauses_names_alike : (cs : Clauses) → ClausesOf (Keeps a b r) cs → Alike (clauses_names (renamed_clauses r cs)) (clauses_names cs)
+    clauses_names_alike no_clauses k = λ n l. refl
+    clauses_names_alike (clause p ps g body cs) k =
+        alike_union (all_names (renamed_all r ps)) (all_names ps) (union (all_names (renamed_all r body)) (clauses_names (renamed_clauses r cs))) (union (all_names body) (clauses_names cs)) (all_names_alike ps k.0)
+        (alike_union (all_names (renamed_all r body)) (all_names body) (clauses_names (renamed_clauses r cs)) (clauses_names cs) (all_names_alike body k.1) (clauses_names_alike cs k.2))
 
   mutual
     ways_alike : (e : Tree) → TreeOf (Keeps a b r) e → WaysAlike (ways (renamed r e)) (ways e)
@@ -117,11 +128,30 @@ module _ (a b : Texts) (r : Name → Name) (differ : AllDiffer b) where
     shape_ways_alike (remote m f es) k =
         alike_beside (ways (renamed r m)) (ways m) (beside (ways (renamed r f)) (side_by_side (renamed_all r es))) (beside (ways f) (side_by_side es)) (ways_alike m k.0)
         (alike_beside (ways (renamed r f)) (ways f) (side_by_side (renamed_all r es)) (side_by_side es) (ways_alike f k.1) (side_alike es k.2))
+    shape_ways_alike (case_of e cs) k =
+        alike_before (ways (renamed r e)) (ways e) (clauses_ways (renamed_clauses r cs)) (clauses_ways cs) (ways_alike e k.0) (clauses_ways_alike cs k.1)
 
     side_alike : (es : Trees) → TreesOf (Keeps a b r) es → WaysAlike (side_by_side (renamed_all r es)) (side_by_side es)
     side_alike end k = λ s t h. (h, tt)
     side_alike (more e es) k =
         alike_beside (ways (renamed r e)) (ways e) (side_by_side (renamed_all r es)) (side_by_side es) (ways_alike e k.0) (side_alike es k.1)
+
+    body_ways_alike : (es : Trees) → TreesOf (Keeps a b r) es → WaysAlike (body_ways (renamed_all r es)) (body_ways es)
+    body_ways_alike end k = λ s t h. (h, tt)
+    body_ways_alike (more e es) k =
+        alike_before (ways (renamed r e)) (ways e) (body_ways (renamed_all r es)) (body_ways es) (ways_alike e k.0) (body_ways_alike es k.1)
+
+    clauses_ways_alike : (cs : Clauses) → ClausesOf (Keeps a b r) cs → WaysAlike (clauses_ways (renamed_clauses r cs)) (clauses_ways cs)
+    clauses_ways_alike no_clauses k = λ s t h. (h, tt)
+    clauses_ways_alike (clause p ps g body no_clauses) k =
+        alike_before (bind (all_names (renamed_all r ps))) (bind (all_names ps)) (body_ways (renamed_all r body)) (body_ways body)
+        (alike_bind (all_names (renamed_all r ps)) (all_names ps) (all_names_alike ps k.0)) (body_ways_alike body k.1)
+    clauses_ways_alike (clause p ps g body (clause q qs h d cs)) k =
+        alike_or_else (before (bind (all_names (renamed_all r ps))) (body_ways (renamed_all r body))) (before (bind (all_names ps)) (body_ways body))
+        (clauses_ways (renamed_clauses r (clause q qs h d cs))) (clauses_ways (clause q qs h d cs))
+        (alike_before (bind (all_names (renamed_all r ps))) (bind (all_names ps)) (body_ways (renamed_all r body)) (body_ways body)
+        (alike_bind (all_names (renamed_all r ps)) (all_names ps) (all_names_alike ps k.0)) (body_ways_alike body k.1))
+        (clauses_ways_alike (clause q qs h d cs) k.2)
 
   -- ---- faults
 
@@ -131,14 +161,50 @@ module _ (a b : Texts) (r : Name → Name) (differ : AllDiffer b) where
   on_some_alike n (s ∷ ss) [] k h = absurd h
   on_some_alike n (s ∷ ss) (t ∷ ts) k h = ap₂ (λ p q. p || q) (h.0 n k) (on_some_alike n ss ts k h.1)
 
+  on_all_alike : (n : Name) (ss ts : List NameSet) → Keeps a b r n → AllAlike ss ts → on_all (r n) ss ≡ on_all n ts
+  on_all_alike n [] [] k h = refl
+  on_all_alike n [] (t ∷ ts) k h = absurd h
+  on_all_alike n (s ∷ ss) [] k h = absurd h
+  on_all_alike n (s ∷ ss) (t ∷ ts) k h = ap₂ (λ p q. p && q) (h.0 n k) (on_all_alike n ss ts k h.1)
+
   use_alike : (p : Place) (n : Name) (ss ts : List NameSet) → Keeps a b r n → AllAlike ss ts → use_faults a p (r n) ss ≡ use_faults b p n ts
-  use_alike p n ss ts k h =
-      ap₂ (λ (bound : Bool) (words : List ℕ). let fault : Fault = record { place = p; code = 451; words = words } in if bound then [] else (fault ∷ []))
-      (on_some_alike n ss ts k h) k.same
+  use_alike p n ss ts k h = rw (on_all_alike n ss ts k h, on_some_alike n ss ts k h, k.same) refl
+
+  name_alike : (p : Place) (n : Name) (ss ts : List NameSet) → Keeps a b r n → AllAlike ss ts → name_faults a p (r n) ss ≡ name_faults b p n ts
+  name_alike p n ss ts k h = rw (on_all_alike n ss ts k h, on_some_alike n ss ts k h, k.same) refl
 
   -- two lists that are equal in both parts
   both : {A : Type 0} {xs ys us vs : List A} → xs ≡ ys → us ≡ vs → xs ++ us ≡ ys ++ vs
   both e f = ap₂ (λ x y. x ++ y) e f
+
+  behind : (e : Tree) (ss ts : List NameSet) → TreeOf (Keeps a b r) e → AllAlike ss ts → AllAlike (flat_map (ways (renamed r e)) ss) (flat_map (ways e) ts)
+  behind e ss ts k h = alike_flat (ways (renamed r e)) (ways e) ss ts (ways_alike e k) h
+
+  mutual
+    pattern_alike : (e : Tree) (ss ts : List NameSet) → TreeOf (Keeps a b r) e → AllAlike ss ts → pattern_faults a (renamed r e) ss ≡ pattern_faults b e ts
+    pattern_alike (tree p e) ss ts k h = pattern_shape_alike p e ss ts k h
+
+    pattern_shape_alike : (p : Place) (e : Shape) (ss ts : List NameSet) → ShapeOf (Keeps a b r) e → AllAlike ss ts → pattern_shape_faults a p (renamed_shape r e) ss ≡ pattern_shape_faults b p e ts
+    pattern_shape_alike p (int i) ss ts k h = refl
+    pattern_shape_alike p (atom n) ss ts k h = refl
+    pattern_shape_alike p (var n) ss ts k h = name_alike p n ss ts k h
+    pattern_shape_alike p any ss ts k h = refl
+    pattern_shape_alike p (list es) ss ts k h = patterns_alike es ss ts k h
+    pattern_shape_alike p (list_to es e) ss ts k h = both (patterns_alike es ss ts k.0 h) (pattern_alike e ss ts k.1 h)
+    pattern_shape_alike p (tuple es) ss ts k h = patterns_alike es ss ts k h
+    pattern_shape_alike p (matching q e) ss ts k h = both (pattern_alike q ss ts k.0 h) (pattern_alike e ss ts k.1 h)
+    pattern_shape_alike p (call f es) ss ts k h = both (pattern_alike f ss ts k.0 h) (patterns_alike es ss ts k.1 h)
+    pattern_shape_alike p (remote m f es) ss ts k h = both (pattern_alike m ss ts k.0 h) (both (pattern_alike f ss ts k.1 h) (patterns_alike es ss ts k.2 h))
+    pattern_shape_alike p (case_of e cs) ss ts k h = both (pattern_alike e ss ts k.0 h) (pattern_clauses_alike cs ss ts k.1 h)
+
+    patterns_alike : (es : Trees) (ss ts : List NameSet) → TreesOf (Keeps a b r) es → AllAlike ss ts → patterns_faults a (renamed_all r es) ss ≡ patterns_faults b es ts
+    patterns_alike end ss ts k h = refl
+    patterns_alike (more e es) ss ts k h = both (pattern_alike e ss ts k.0 h) (patterns_alike es ss ts k.1 h)
+
+    pattern_clauses_alike : (cs : Clauses) (ss ts : List NameSet) → ClausesOf (Keeps a b r) cs → AllAlike ss ts → pattern_clauses_faults a (renamed_clauses r cs) ss ≡ pattern_clauses_faults b cs ts
+    pattern_clauses_alike no_clauses ss ts k h = refl
+    pattern_clauses_alike (clause p ps g body cs) ss ts k h =
+        both (patterns_alike ps ss ts k.0 h) (both (patterns_alike body ss ts k.1 h) (pattern_clauses_alike cs ss ts k.2 h))
 
   mutual
     faults_alike : (e : Tree) (ss ts : List NameSet) → TreeOf (Keeps a b r) e → AllAlike ss ts → faults a (renamed r e) ss ≡ faults b e ts
@@ -152,27 +218,30 @@ module _ (a b : Texts) (r : Name → Name) (differ : AllDiffer b) where
     shape_faults_alike p (list es) ss ts k h = all_faults_alike es ss ts k h
     shape_faults_alike p (list_to es e) ss ts k h = both (all_faults_alike es ss ts k.0 h) (faults_alike e ss ts k.1 h)
     shape_faults_alike p (tuple es) ss ts k h = all_faults_alike es ss ts k h
-    shape_faults_alike p (matching q e) ss ts k h = faults_alike e ss ts k.1 h
+    shape_faults_alike p (matching q e) ss ts k h =
+        both (faults_alike e ss ts k.1 h) (pattern_alike q (flat_map (ways (renamed r e)) ss) (flat_map (ways e) ts) k.0 (behind e ss ts k.1 h))
     shape_faults_alike p (call f es) ss ts k h = both (faults_alike f ss ts k.0 h) (all_faults_alike es ss ts k.1 h)
     shape_faults_alike p (remote m f es) ss ts k h =
         both (faults_alike m ss ts k.0 h) (both (faults_alike f ss ts k.1 h) (all_faults_alike es ss ts k.2 h))
+    shape_faults_alike p (case_of e cs) ss ts k h =
+        both (faults_alike e ss ts k.0 h) (clauses_alike cs (flat_map (ways (renamed r e)) ss) (flat_map (ways e) ts) k.1 (behind e ss ts k.0 h))
 
     all_faults_alike : (es : Trees) (ss ts : List NameSet) → TreesOf (Keeps a b r) es → AllAlike ss ts → all_faults a (renamed_all r es) ss ≡ all_faults b es ts
     all_faults_alike end ss ts k h = refl
     all_faults_alike (more e es) ss ts k h = both (faults_alike e ss ts k.0 h) (all_faults_alike es ss ts k.1 h)
 
-  body_alike : (es : Trees) (ss ts : List NameSet) → TreesOf (Keeps a b r) es → AllAlike ss ts → body_faults a (renamed_all r es) ss ≡ body_faults b es ts
-  body_alike end ss ts k h = refl
-  body_alike (more e es) ss ts k h =
-      both (faults_alike e ss ts k.0 h)
-      (body_alike es (flat_map (ways (renamed r e)) ss) (flat_map (ways e) ts) k.1 (alike_flat (ways (renamed r e)) (ways e) ss ts (ways_alike e k.0) h))
+    body_alike : (es : Trees) (ss ts : List NameSet) → TreesOf (Keeps a b r) es → AllAlike ss ts → body_faults a (renamed_all r es) ss ≡ body_faults b es ts
+    body_alike end ss ts k h = refl
+    body_alike (more e es) ss ts k h =
+        both (faults_alike e ss ts k.0 h) (body_alike es (flat_map (ways (renamed r e)) ss) (flat_map (ways e) ts) k.1 (behind e ss ts k.0 h))
 
-  clauses_alike : (cs : Clauses) (ss ts : List NameSet) → ClausesOf (Keeps a b r) cs → AllAlike ss ts → clauses_faults a (renamed_clauses r cs) ss ≡ clauses_faults b cs ts
-  clauses_alike no_clauses ss ts k h = refl
-  clauses_alike (clause p ps g body cs) ss ts k h =
-      both (body_alike body (flat_map (bind (all_names (renamed_all r ps))) ss) (flat_map (bind (all_names ps)) ts) k.1
-      (alike_flat (bind (all_names (renamed_all r ps))) (bind (all_names ps)) ss ts (alike_bind (all_names (renamed_all r ps)) (all_names ps) (all_names_alike ps k.0)) h))
-      (clauses_alike cs ss ts k.2 h)
+    clauses_alike : (cs : Clauses) (ss ts : List NameSet) → ClausesOf (Keeps a b r) cs → AllAlike ss ts → clauses_faults a (renamed_clauses r cs) ss ≡ clauses_faults b cs ts
+    clauses_alike no_clauses ss ts k h = refl
+    clauses_alike (clause p ps g body cs) ss ts k h =
+        both (patterns_alike ps ss ts k.0 h)
+        (both (body_alike body (flat_map (bind (all_names (renamed_all r ps))) ss) (flat_map (bind (all_names ps)) ts) k.1
+        (alike_flat (bind (all_names (renamed_all r ps))) (bind (all_names ps)) ss ts (alike_bind (all_names (renamed_all r ps)) (all_names ps) (all_names_alike ps k.0)) h))
+        (clauses_alike cs ss ts k.2 h))
 
   form_alike : (f : FormTree) → FormOf (Keeps a b r) f → form_faults a (renamed_form r f) ≡ form_faults b f
   form_alike (module_name n) k = refl

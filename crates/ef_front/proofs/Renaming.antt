@@ -8,11 +8,12 @@ use Rattle.ef_token.specs.declared.token.TokenKind.{TokenKind}
 use Rattle.ef_token.specs.declared.token.TokenKind.TheVariants as kind
 use Rattle.ef_token.specs.declared.token.Token.{Token}
 use Rattle.ef_token.specs.declared.word.Sym.TheVariants as sy
+use Rattle.ef_token.specs.declared.word.Word.TheVariants as word
 use Rattle.ef_forms.specs.declared.form.FunctionRef.{FunctionRef}
 use Rattle.ef_forms.specs.declared.tables.FunctionName.{FunctionName}
-use Rattle.ef_forms.specs.Tree.{Tree, Shape, Trees, Guards, Clauses, FunctionTree, FormTree, PlacedTree, ModuleTree, tree, int, atom, var, any, list, list_to, tuple, matching, call, remote, end, more, no_guard, or_guard, no_clauses, clause, module_name, export, function, count}
+use Rattle.ef_forms.specs.Tree.{Tree, Shape, Trees, Guards, Clauses, FunctionTree, FormTree, PlacedTree, ModuleTree, tree, int, atom, var, any, list, list_to, tuple, matching, call, remote, case_of, end, more, no_guard, or_guard, no_clauses, clause, module_name, export, function, count}
 use Rattle.ef_forms.specs.Built.{IsNarrow, IsNarrowShape, AreNarrow, AreNarrowGuards, AreNarrowClauses, most_arguments}
-use Rattle.ef_parse.specs.Grammar.{token, symbol, start_of, match_level, call_level, max_level, Spells, SpellsAll, SpellsSome, SpellsClause, SpellsClauses, a_variable, an_underscore, an_atom, an_integer, parentheses, a_list, a_list_to, a_tuple, a_match, a_call, a_remote, nothing, some, one, and_more, a_clause, one_clause, and_clauses}
+use Rattle.ef_parse.specs.Grammar.{token, symbol, keyword, start_of, match_level, call_level, max_level, Spells, SpellsAll, SpellsSome, SpellsBranch, SpellsBranches, SpellsClause, SpellsClauses, a_variable, an_underscore, an_atom, an_integer, parentheses, a_list, a_list_to, a_tuple, a_match, a_call, a_remote, a_case, nothing, some, one, and_more, a_branch, one_branch, and_branches, a_clause, one_clause, and_clauses}
 use Rattle.ef_module.specs.Forms.{SpellsReference, SpellsReferences, SpellsReferenceList, a_reference, arity_of, AreNarrowReferences, IsNarrowForm}
 use Rattle.ef_module.specs.Forms as forms
 use Rattle.ef_front.proofs.OfNames.{TokensOf, first, second}
@@ -43,18 +44,19 @@ module _ (r : Name → Name) where
     renamed_shape (matching p e) = matching (renamed p) (renamed e)
     renamed_shape (call f es) = call (renamed f) (renamed_all es)
     renamed_shape (remote m f es) = remote (renamed m) (renamed f) (renamed_all es)
+    renamed_shape (case_of e cs) = case_of (renamed e) (renamed_clauses cs)
 
     pub renamed_all : Trees → Trees
     renamed_all end = end
     renamed_all (more e es) = more (renamed e) (renamed_all es)
 
-  abbrev pub renamed_guards : Guards → Guards
-  renamed_guards no_guard = no_guard
-  renamed_guards (or_guard es gs) = or_guard (renamed_all es) (renamed_guards gs)
+    pub renamed_guards : Guards → Guards
+    renamed_guards no_guard = no_guard
+    renamed_guards (or_guard es gs) = or_guard (renamed_all es) (renamed_guards gs)
 
-  abbrev pub renamed_clauses : Clauses → Clauses
-  renamed_clauses no_clauses = no_clauses
-  renamed_clauses (clause p ps g body cs) = clause p (renamed_all ps) (renamed_guards g) (renamed_all body) (renamed_clauses cs)
+    pub renamed_clauses : Clauses → Clauses
+    renamed_clauses no_clauses = no_clauses
+    renamed_clauses (clause p ps g body cs) = clause p (renamed_all ps) (renamed_guards g) (renamed_all body) (renamed_clauses cs)
 
   abbrev pub renamed_function : FunctionTree → FunctionTree
   renamed_function f = record { place = f.place; name = r f.name; arity = f.arity; clauses = renamed_clauses f.clauses }
@@ -108,18 +110,19 @@ module _ (r : Name → Name) where
     narrow_shape (matching p e) h = (narrow p h.0, narrow e h.1)
     narrow_shape (call f es) h = (few es h.0, narrow f h.1, narrow_all es h.2)
     narrow_shape (remote m f es) h = (few es h.0, narrow m h.1, narrow f h.2, narrow_all es h.3)
+    narrow_shape (case_of e cs) h = (narrow e h.0, narrow_clauses cs h.1)
 
     narrow_all : (es : Trees) → AreNarrow es → AreNarrow (renamed_all es)
     narrow_all end h = tt
     narrow_all (more e es) h = (narrow e h.0, narrow_all es h.1)
 
-  narrow_guards : (gs : Guards) → AreNarrowGuards gs → AreNarrowGuards (renamed_guards gs)
-  narrow_guards no_guard h = tt
-  narrow_guards (or_guard es gs) h = (narrow_all es h.0, narrow_guards gs h.1)
+    narrow_guards : (gs : Guards) → AreNarrowGuards gs → AreNarrowGuards (renamed_guards gs)
+    narrow_guards no_guard h = tt
+    narrow_guards (or_guard es gs) h = (narrow_all es h.0, narrow_guards gs h.1)
 
-  narrow_clauses : (cs : Clauses) → AreNarrowClauses cs → AreNarrowClauses (renamed_clauses cs)
-  narrow_clauses no_clauses h = tt
-  narrow_clauses (clause p ps g body cs) h = (few ps h.0, narrow_all ps h.1, narrow_guards g h.2, narrow_all body h.3, narrow_clauses cs h.4)
+    narrow_clauses : (cs : Clauses) → AreNarrowClauses cs → AreNarrowClauses (renamed_clauses cs)
+    narrow_clauses no_clauses h = tt
+    narrow_clauses (clause p ps g body cs) h = (few ps h.0, narrow_all ps h.1, narrow_guards g h.2, narrow_all body h.3, narrow_clauses cs h.4)
 
   narrow_references : (fs : List FunctionRef) → AreNarrowReferences fs → AreNarrowReferences (map renamed_reference fs)
   narrow_references [] h = tt
@@ -200,6 +203,11 @@ module _ (a b : Texts) (r : Name → Name) where
         (a_remote (renamed r m) (renamed r f) (renamed_all r args) c d' g p q t (renamed_tokens ms) (renamed_tokens fs) (renamed_tokens xs)
         (spells m max_level c ms s (first (Keeps a b r) ms _ h)) (spells f max_level d' fs s' (first (Keeps a b r) fs _ (second (Keeps a b r) ms _ h).1))
         (spells_all args g xs ss (first (Keeps a b r) xs _ (second (Keeps a b r) fs _ (second (Keeps a b r) ms _ h).1).1)))
+    spells e k d ts (a_case e' cs k' d' g p q u us bs s ss) h =
+        subst (λ l. Spells a (tree p (case_of (renamed r e') (renamed_clauses r cs))) max_level (suc (max d' g)) (keyword word.Case p ∷ l))
+        (sym (apart r us (keyword word.Of q ∷ (bs ++ keyword word.End u ∷ [])) ∙ ap (λ l. renamed_tokens us ++ keyword word.Of q ∷ l) (apart r bs (keyword word.End u ∷ []))))
+        (a_case (renamed r e') (renamed_clauses r cs) k' d' g p q u (renamed_tokens us) (renamed_tokens bs) (spells e' k' d' us s (first (Keeps a b r) us _ h.1))
+        (spells_branches cs g bs ss (first (Keeps a b r) bs _ (second (Keeps a b r) us _ h.1).1)))
 
     spells_all : (es : Trees) (d : ℕ) (ts : List Token) → SpellsAll b es d ts → Kept ts → SpellsAll a (renamed_all r es) d (renamed_tokens ts)
     spells_all es d ts nothing h = nothing
@@ -210,6 +218,21 @@ module _ (a b : Texts) (r : Name → Name) where
     spells_some es d ts (and_more e es' k d' g p ts' us s ss) h =
         subst (λ l. SpellsSome a (more (renamed r e) (renamed_all r es')) (max d' g) l) (sym (apart r ts' (symbol sy.Comma p ∷ us)))
         (and_more (renamed r e) (renamed_all r es') k d' g p (renamed_tokens ts') (renamed_tokens us) (spells e k d' ts' s (first (Keeps a b r) ts' _ h)) (spells_some es' g us ss (second (Keeps a b r) ts' _ h).1))
+
+    spells_branch : (p : Place) (ps es : Trees) (d : ℕ) (ts : List Token) → SpellsBranch b p ps es d ts → Kept ts
+        → SpellsBranch a p (renamed_all r ps) (renamed_all r es) d (renamed_tokens ts)
+    spells_branch p ps es d ts (a_branch l es' k c g q ls ys s ss) h =
+        subst₂ (λ start xs. SpellsBranch a start (more (renamed r l) end) (renamed_all r es') (max c g) xs) (same_start r ls) (sym (apart r ls (symbol sy.Arrow q ∷ ys)))
+        (a_branch (renamed r l) (renamed_all r es') k c g q (renamed_tokens ls) (renamed_tokens ys) (spells l k c ls s (first (Keeps a b r) ls _ h))
+        (spells_some es' g ys ss (second (Keeps a b r) ls _ h).1))
+
+    spells_branches : (cs : Clauses) (d : ℕ) (ts : List Token) → SpellsBranches b cs d ts → Kept ts → SpellsBranches a (renamed_clauses r cs) d (renamed_tokens ts)
+    spells_branches cs d ts (one_branch p ps es d' ts' s) h =
+        one_branch p (renamed_all r ps) (renamed_all r es) d' (renamed_tokens ts') (spells_branch p ps es d' ts' s h)
+    spells_branches cs d ts (and_branches p ps es cs' d' g q ts' us s ss) h =
+        subst (λ l. SpellsBranches a (clause p (renamed_all r ps) no_guard (renamed_all r es) (renamed_clauses r cs')) (max d' g) l) (sym (apart r ts' (symbol sy.Semicolon q ∷ us)))
+        (and_branches p (renamed_all r ps) (renamed_all r es) (renamed_clauses r cs') d' g q (renamed_tokens ts') (renamed_tokens us)
+        (spells_branch p ps es d' ts' s (first (Keeps a b r) ts' _ h)) (spells_branches cs' g us ss (second (Keeps a b r) ts' _ h).1))
 
   spells_clause : (n : Name) (p : Place) (ps es : Trees) (d : ℕ) (ts : List Token) → SpellsClause b n p ps es d ts → Kept ts
       → SpellsClause a (r n) p (renamed_all r ps) (renamed_all r es) d (renamed_tokens ts)

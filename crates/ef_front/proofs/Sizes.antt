@@ -16,7 +16,7 @@ use Rattle.ef_scan.proofs.TokenForms.{token_forms}
 use Rattle.ef_forms.specs.Tree.{Tree, Trees, Clauses, FunctionTree, FormTree, PlacedTree, ModuleTree}
 use Rattle.ef_forms.specs.Weight.{weight, all_weight, clauses_weight, function_weight}
 use Rattle.ef_forms.specs.Built.{Each, functions_in, functions_of}
-use Rattle.ef_parse.specs.Grammar.{Spells, SpellsAll, SpellsSome, SpellsClause, SpellsClauses, a_variable, an_underscore, an_atom, an_integer, parentheses, a_list, a_list_to, a_tuple, a_match, a_call, a_remote, nothing, some, one, and_more, a_clause, one_clause, and_clauses}
+use Rattle.ef_parse.specs.Grammar.{Spells, SpellsAll, SpellsSome, SpellsBranch, SpellsBranches, SpellsClause, SpellsClauses, a_variable, an_underscore, an_atom, an_integer, parentheses, a_list, a_list_to, a_tuple, a_match, a_call, a_remote, a_case, nothing, some, one, and_more, a_branch, one_branch, and_branches, a_clause, one_clause, and_clauses}
 use Rattle.ef_module.specs.Forms.{SpellsForm, SpellsForms, SpellsModule, a_module_name, an_export, a_function}
 
 -- ---- a node takes a token
@@ -39,6 +39,8 @@ module _ (all : Texts) where
         let target = weighs f _ d' fs h in let others = weighs_all args g xs hs in simp length-append (omega arith)
     weighs e k d ts (a_remote m f args c d' g p q r ms fs xs h h' hs) =
         let home = weighs m _ c ms h in let name = weighs f _ d' fs h' in let others = weighs_all args g xs hs in simp length-append (omega arith)
+    weighs e k d ts (a_case e' cs k' d' g p q r us bs h hs) =
+        let arg = weighs e' k' d' us h in let others = branches_weigh cs g bs hs in simp length-append (omega arith)
 
     weighs_all : (es : Trees) (d : ℕ) (ts : List Token) → SpellsAll all es d ts → all_weight es ≤ length ts
     weighs_all es d ts nothing = omega arith
@@ -48,6 +50,15 @@ module _ (all : Texts) where
     weighs_some es d ts (one e k d' ts' h) = let here = weighs e k d' ts' h in omega arith
     weighs_some es d ts (and_more e es' k d' g p ts' us h hs) =
         let here = weighs e k d' ts' h in let others = weighs_some es' g us hs in simp length-append (omega arith)
+
+    branch_weighs : (p : Place) (ps es : Trees) (d : ℕ) (ts : List Token) → SpellsBranch all p ps es d ts → all_weight ps + all_weight es ≤ length ts
+    branch_weighs p ps es d ts (a_branch l es' k c g q ls ys h hs) =
+        let head = weighs l k c ls h in let body = weighs_some es' g ys hs in simp length-append (omega arith)
+
+    branches_weigh : (cs : Clauses) (d : ℕ) (ts : List Token) → SpellsBranches all cs d ts → clauses_weight cs ≤ length ts
+    branches_weigh cs d ts (one_branch p ps es d' ts' h) = let here = branch_weighs p ps es d' ts' h in omega arith
+    branches_weigh cs d ts (and_branches p ps es cs' d' g q ts' us h hs) =
+        let here = branch_weighs p ps es d' ts' h in let others = branches_weigh cs' g us hs in simp length-append (omega arith)
 
   clause_weighs : (n : Name) (p : Place) (ps es : Trees) (d : ℕ) (ts : List Token) → SpellsClause all n p ps es d ts → all_weight ps + all_weight es ≤ length ts
   clause_weighs n p ps es d ts (a_clause n' ps' es' d' g p' q r s xs ys h hs) =

@@ -36,6 +36,7 @@ wording code =
     else if code == 232 then (record { before = codes "no file "; after = [] })
     else if code == 308 then (record { before = codes "no module attribute"; after = [] })
     else if code == 451 then (record { before = codes "variable "; after = codes " is unbound" })
+    else if code == 452 then (record { before = codes "variable "; after = codes " is unsafe here" })
     else if code == 500 then (record { before = codes "not built"; after = [] })
     else if code == 501 then (record { before = codes "float"; after = [] })
     else if code == 504 then (record { before = codes "integer too large"; after = [] })

@@ -65,6 +65,7 @@ fn wording_of(code: u16) -> Wording
         232 => (b"no file ", b""),
         308 => (b"no module attribute", b""),
         451 => (b"variable ", b" is unbound"),
+        452 => (b"variable ", b" is unsafe here"),
         500 => (b"not built", b""),
         501 => (b"float", b""),
         504 => (b"integer too large", b""),

@@ -45,12 +45,12 @@ pub fn compile_text(alloc: Global, source: &[u8]) -> Result<Compiled, NoMemory>
 
 /// The faults of the faulty forms, and the tokens of the others.
 #[derive(Drop)]
-struct Taken {
-    faults: FaultList,
-    forms: Vec<Vec<Token>>,
+pub struct Taken {
+    pub faults: FaultList,
+    pub forms: Vec<Vec<Token>>,
 }
 
-fn take_forms(alloc: Global, scanned: Vec<ScannedForm>) -> Result<Taken, NoMemory>
+pub fn take_forms(alloc: Global, scanned: Vec<ScannedForm>) -> Result<Taken, NoMemory>
     ensures { IfOk result (λ taken. AreTaken scanned.items taken.faults (lists taken.forms.items)) }
 {
     let mut taken = Taken {

@@ -6,7 +6,9 @@ use std::alloc::Global;
 use std::process::Abort;
 use std::test::Fail;
 
+mod branches;
 mod modules;
+mod weights;
 
 // A run: its words, the calls that fail on the sources, the output and the diagnostic sink, and what it comes to.
 #[derive(Drop)]

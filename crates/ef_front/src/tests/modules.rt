@@ -58,7 +58,7 @@ end
 ";
 
 // Sources and the texts written for them.
-const TEXTS: &[(&str, &str)] = &[
+pub const TEXTS: &[(&str, &str)] = &[
     (IDENTITY, IDENTITY_TEXT),
     (
         "-module(a).\n-export([module_info/0, f/0]).\nf() -> module_info().\n",
@@ -200,7 +200,7 @@ fn texts(rt: HostRuntime) -> Result<(), Fail> {
 }
 
 // Sources without faults.
-const FAULTLESS: &[&str] = &[
+pub const FAULTLESS: &[&str] = &[
     "\0-module\0(\u{a0}r).\t-export([f/1]).\x0b\u{80}f(X) -> X.",
     "-module(r).\n-export([f/0]).\nf() -> module_info(), module_info(f).\n",
     "-module(r).\n-export([f/0]).\nf() -> 170141183460469231731687303715884105727.\n",
@@ -287,7 +287,23 @@ const MODULES: &[(&str, &str)] = &[
     ),
     // What is not built.
     (
-        "-module(r).\n-export([f/1]).\nf(X) -> case X of 1 -> 2 end.\n",
+        "-module(r).\n-export([f/1]).\nf(X) -> case X of Y when Y -> 2 end.\n",
+        NOT_BUILT,
+    ),
+    (
+        "-module(r).\n-export([f/1]).\nf(X) -> case X of f(Y) -> 2 end.\n",
+        NOT_BUILT,
+    ),
+    (
+        "-module(r).\n-export([f/1]).\nf(case X of Y -> Y end) -> X.\n",
+        NOT_BUILT,
+    ),
+    (
+        "-module(r).\n-export([f/1]).\nf(X) -> case X of Y -> k(Y) end.\n",
+        NOT_BUILT,
+    ),
+    (
+        "-module(r).\n-export([f/1]).\nf(X) -> case X of end.\n",
         NOT_BUILT,
     ),
     (
@@ -352,6 +368,8 @@ const NESTED: &[(&str, &str, &str, usize)] = &[
     ("[a | ", "X", "]", 127),
     ("{", "X", "}", 127),
     ("X = ", "X", "", 127),
+    ("case X of X -> ", "X", " end", 127),
+    ("case ", "X", " of X -> X end", 127),
 ];
 
 #[test]
@@ -394,7 +412,7 @@ fn nested(
 }
 
 // The lines of a module's faults; without a line, it is written.
-fn check(rt: &impl Abort, alloc: Global, source: Bytes, printed: &str) -> Result<(), Fail> {
+pub fn check(rt: &impl Abort, alloc: Global, source: Bytes, printed: &str) -> Result<(), Fail> {
     let run = run(alloc, "r.erl", source, &NO_TROUBLE)?;
     assert_eq!(rt; run.diag.bytes(), printed.as_bytes());
     let is_written = printed.len() == 0;

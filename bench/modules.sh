@@ -1,5 +1,5 @@
 #!/usr/bin/env bash
-# Makes modules of three shapes in three sizes, compiles each with the proved program, and prints the size, the time,
+# Makes modules of five shapes in three sizes, compiles each with the proved program, and prints the size, the time,
 # the bytes a second and the peak memory. Words: a folder for the modules (a temporary one by default).
 set -eu
 top=$(dirname "$(dirname "$(readlink -f "$0")")")
@@ -52,14 +52,30 @@ def nesting():
         yield f"n{n}(X) -> {calls}X{')' * 100}.\n"
         n += 1
 
+def cases():
+    n = 0
+    while True:
+        inner = "case Y of 1 -> Z = a; _ -> Z = b end"
+        yield f"c{n}(X) ->\n    case X of {{ok, Y}} -> Z = g:h(Y); [Y | _] -> {inner}; Y -> Z = X end,\n    {{Y, Z}}.\n"
+        n += 1
+
+def branches():
+    n = 0
+    while True:
+        before = "case X of 1 -> Y = 1; _ -> " * 100
+        yield f"b{n}(X) -> {before}Y = 2{' end' * 100}, Y.\n"
+        n += 1
+
 for label, size in sizes.items():
     write(f"functions_{label}", size, functions())
     write(f"arguments_{label}", size, arguments())
     write(f"nesting_{label}", size, nesting())
+    write(f"cases_{label}", size, cases())
+    write(f"branches_{label}", size, branches())
 PYTHON
 cd "$folder"
 printf '%-16s %9s %8s %12s %12s %8s\n' module bytes seconds bytes/s peak-bytes per-byte
-for shape in functions arguments nesting; do
+for shape in functions arguments nesting cases branches; do
   for size in 64K 512K 4M; do
     file=${shape}_$size.erl
     python3 - "$program" "$file" <<'PYTHON'

@@ -13,8 +13,8 @@ use Rattle.std.proofs.lemmas.Slice.Eq.{bytes_eq-Decides}
 use Rattle.ef_base.specs.declared.fault.Place.{Place}
 use Rattle.ef_base.specs.declared.fault.Fault.{Fault}
 use Rattle.ef_base.specs.Faults.{insert_fault, set_of}
-use Rattle.ef_base.specs.Order.{place_cmp, fault_cmp}
-use Rattle.ef_base.proofs.Sorted.{fault_total, set_of-sorted, sorted_set_of}
+use Rattle.ef_base.specs.Order.{place_cmp, fault_cmp, fault_total}
+use Rattle.ef_base.proofs.Sorted.{set_of-sorted, sorted_set_of}
 
 -- ---- over any order that tells all apart
 

@@ -5,3 +5,7 @@ pub mod Searches
 pub mod Unused
 pub mod CutLaws
 pub mod Escapes
+pub mod Classes
+pub mod HexDigits
+pub mod Fronts
+pub mod EscapedTexts

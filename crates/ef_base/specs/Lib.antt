@@ -8,3 +8,6 @@ pub mod Cut
 pub mod Taken
 pub mod Characters
 pub mod Escape
+pub mod FaultTable
+pub mod NamedFaults
+pub mod Escaped

@@ -55,11 +55,13 @@ impl<R: Files> Sink for FileOutput<'_, R> {
 impl<R: Files> Output for FileOutput<'_, R> {
     ghost not_created = { λ it closed. not_created_while_closed (is_some it.file) it.path it.faults closed };
 
+    // The path is copied first: where there is no memory for it, the file of before stays as it is.
     fn create(&mut self, path: &str) -> Result<(), Failed> {
-        let (Ok(kept), Ok(file)) = (
-            path.as_bytes().to_vec(self.alloc),
-            fs::create(self.rt, path),
-        ) else {
+        let Ok(kept) = path.as_bytes().to_vec(self.alloc) else {
+            self.faults = one_more(self.faults);
+            return Err(Failed);
+        };
+        let Ok(file) = fs::create(self.rt, path) else {
             self.faults = one_more(self.faults);
             return Err(Failed);
         };

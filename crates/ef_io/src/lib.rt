@@ -24,6 +24,3 @@ pub use sink::{Failed, Output, Sink};
 pub use sources::{ReadRefusal, Sources};
 pub use status::Status;
 pub use whole::{put, put_parts};
-
-#[cfg(test)]
-mod tests;

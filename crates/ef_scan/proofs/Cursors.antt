@@ -1,20 +1,20 @@
 -- Steps of a cursor.
-use Rattle.std.proofs.Common.{ℕ, ◌+◌, ◌-◌, ◌<◌, ◌≤◌, ◌≡◌, Bool, true, false, List, [], ◌∷◌, ◌++◌, length, take, drop, chars, get_or, zero, suc, arith, refl, subst, sym, ap, ◌∙◌, append_assoc, append-nil, length-append, length-drop}
+use Rattle.std.proofs.Common.{ℕ, ◌+◌, ◌-◌, ◌<◌, ◌≤◌, ◌≡◌, Bool, true, false, List, [], ◌∷◌, ◌++◌, length, take, drop, chars, arith, refl, subst, sym, ap, ◌∙◌, append_assoc, append-nil, length-append, length-drop}
 use Rattle.std.specs.Prelude.{IsUtf8, ◌==◌, ◌&&◌, encode_utf8, encode_utf8_all}
 use Rattle.std.specs.Char.{len_utf8}
-use Rattle.std.specs.Str.{IsAscii, IsCharBoundary}
+use Rattle.std.specs.Str.{IsCharBoundary}
 use Rattle.std.proofs.lemmas.Bool.Decides.{nat_tests}
-use Rattle.std.proofs.lemmas.List.{take-append-drop, take_more, length-take-le}
-use Rattle.std.proofs.Math.Seq.{take-append_seam, drop-cons}
-use Rattle.std.proofs.lemmas.Str.{chars_past_char, IsUtf8-past_char, length-encode, len_utf8_bounds, length-le-encodes, encodes-append, encodes-IsAscii, IsCharBoundary-at_seam, encode_ascii}
+use Rattle.std.proofs.lemmas.List.{take-append-drop, length-take-le}
+use Rattle.std.proofs.Math.Seq.{take-append_seam}
+use Rattle.std.proofs.lemmas.Str.{chars_past_char, IsUtf8-past_char, length-encode, len_utf8_bounds, length-le-encodes, encodes-append, encodes-IsAscii, IsCharBoundary-at_seam}
 use Rattle.ef_base.specs.Characters.{Each, Stops}
 use Rattle.ef_base.specs.Positions.{Position, next_position, position_after}
+use Rattle.ef_base.proofs.Classes.{each_append, each_weaker}
 use Rattle.ef_base.proofs.CutLaws.{position_after-append}
+use Rattle.ef_base.proofs.Fronts.{each_ascii, utf8_behind, chars_behind}
 use Rattle.ef_scan.specs.declared.class.Class.{Class}
 use Rattle.ef_scan.specs.declared.cursor.Cursor.{Cursor}
 use Rattle.ef_token.specs.Letters.{is_printing}
-use Rattle.ef_token.proofs.Lexemes.{each_append}
-use Rattle.ef_token.proofs.Plain.{each_weaker}
 use Rattle.ef_scan.specs.Cursors.{IsInText, IsStep, IsBehind, IsRun, is_plain, is_plain_of, position_of, test_of}
 
 -- behind a character at the front of a text
@@ -81,12 +81,6 @@ each_both p q (c ∷ cs) h = let b = both (p c) (q c) h.0 in let on = each_both 
     both true false e = cc e
     both false b e = cc e
 
-pub stops_at : (p : ℕ → Bool) (bytes : List ℕ) (n : ℕ) → n < length bytes → p (get_or bytes n 0) ≡ false → Stops p (drop n bytes)
-stops_at p bytes n l h = subst (Stops p) (sym (drop-cons bytes n 0 l)) h
-
-pub each_take_more : (p : ℕ → Bool) (bytes : List ℕ) (n : ℕ) → n < length bytes → Each p (take n bytes) → p (get_or bytes n 0) ≡ true → Each p (take (n + 1) bytes)
-each_take_more p bytes n l h k = subst (Each p) (sym (take_more bytes n 0 l)) (each_append p (take n bytes) (get_or bytes n 0 ∷ []) h (k, tt))
-
 -- a run that has come so far
 pub record RunsTo (p : ℕ → Bool) (first second : Cursor) (count : ℕ) : Type 0 where
   pub front : List ℕ
@@ -148,37 +142,6 @@ printing_plain cs h = each_weaker is_printing is_plain cs (λ c p. grind (arith,
 pub plain_small : (c : ℕ) → is_plain c ≡ true → c < 128
 plain_small c h = grind (arith, nat_tests)
 
-pub each_ascii : (front : List ℕ) → Each is_plain front → IsAscii front
-each_ascii front h i = go front h i
-  where
-    go : (front : List ℕ) → Each is_plain front → (i : ℕ) → get_or front i 0 < 128
-    go [] h i = omega arith
-    go (c ∷ cs) h zero = plain_small c h.0
-    go (c ∷ cs) h (suc i) = go cs h.1 i
-
-ascii_head : (c : ℕ) (bs : List ℕ) → c < 128 → c ∷ bs ≡ encode_utf8 c ++ bs
-ascii_head c bs h = ap (λ t. t ++ bs) (sym (encode_ascii c h))
-
--- what is behind a plain front is a text
-pub utf8_behind : (front rest : List ℕ) → Each is_plain front → IsUtf8 (front ++ rest) → IsUtf8 rest
-utf8_behind [] rest h u = u
-utf8_behind (c ∷ front) rest h u =
-    utf8_behind front rest h.1 (IsUtf8-past_char (c ∷ (front ++ rest)) (front ++ rest) c u (ascii_head c (front ++ rest) (plain_small c h.0)))
-
-pub chars_plain : (front rest : List ℕ) → Each is_plain front → IsUtf8 (front ++ rest) → chars (front ++ rest) ≡ front ++ chars rest
-chars_plain [] rest h u = refl
-chars_plain (c ∷ front) rest h u =
-    let e = ascii_head c (front ++ rest) (plain_small c h.0) in
-    chars_past_char (c ∷ (front ++ rest)) (front ++ rest) c u e
-    ∙ ap (λ t. c ∷ t) (chars_plain front rest h.1 (IsUtf8-past_char (c ∷ (front ++ rest)) (front ++ rest) c u e))
-
--- a text may be cut behind a plain front
-pub boundary : (text : List ℕ) (n : ℕ) → IsUtf8 text → n ≤ length text → Each is_plain (take n text) → IsCharBoundary text n
-boundary text n u within h =
-    let e : text ≡ take n text ++ drop n text = sym (take-append-drop n text) in
-    subst (λ k. IsCharBoundary text k) (length-take-le n text within)
-    (IsCharBoundary-at_seam text (take n text) (drop n text) e (utf8_behind (take n text) (drop n text) h (subst IsUtf8 e u)))
-
 -- a plain front has no end of line
 pub position_plain : (at : Position) (front : List ℕ) → Each is_plain front → position_after at front ≡ record { line = at.line; column = at.column + length front }
 position_plain at [] h = ap (λ (k : ℕ). let p : Position = record { line = at.line; column = k } in p) (omega arith)
@@ -199,16 +162,16 @@ behind_width first second width inside within plain rest line column =
     let u : IsUtf8 (take width first.rest.now ++ drop width first.rest.now) = subst IsUtf8 e inside.utf8 in
     let long : length (take width first.rest.now) ≡ width = length-take-le width first.rest.now within in
     record {
-      chars_are = ap chars e ∙ chars_plain (take width first.rest.now) (drop width first.rest.now) plain u ∙ ap (λ t. take width first.rest.now ++ chars t) (sym rest);
+      chars_are = ap chars e ∙ chars_behind is_plain plain_small (take width first.rest.now) (drop width first.rest.now) plain u ∙ ap (λ t. take width first.rest.now ++ chars t) (sym rest);
       bytes_are =
-          e ∙ ap (λ t. take width first.rest.now ++ t) (sym rest) ∙ ap (λ t. t ++ second.rest.now) (sym (encodes-IsAscii (take width first.rest.now) (each_ascii (take width first.rest.now) plain)));
+          e ∙ ap (λ t. take width first.rest.now ++ t) (sym rest) ∙ ap (λ t. t ++ second.rest.now) (sym (encodes-IsAscii (take width first.rest.now) (each_ascii is_plain plain_small (take width first.rest.now) plain)));
       position =
           ap (λ (k : ℕ). let p : Position = record { line = k; column = second.column } in p) line
           ∙ ap (λ (k : ℕ). let p : Position = record { line = first.line; column = k } in p) (column ∙ ap (λ n. first.column + n) (sym long))
           ∙ sym (position_plain (position_of first) (take width first.rest.now) plain);
       in_text =
           record {
-            utf8 = subst IsUtf8 (sym rest) (utf8_behind (take width first.rest.now) (drop width first.rest.now) plain u);
+            utf8 = subst IsUtf8 (sym rest) (utf8_behind is_plain plain_small (take width first.rest.now) (drop width first.rest.now) plain u);
             lines = omega (arith, inside.lines);
             columns = omega (arith, inside.columns);
           };

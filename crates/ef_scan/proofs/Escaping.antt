@@ -9,6 +9,7 @@ use Rattle.ef_base.specs.Escape.{Escape, by_letter, by_octal, by_two, by_braces,
 use Rattle.ef_base.proofs.Escapes.{run, run-append, run-stops, same_rest}
 use Rattle.ef_token.specs.Numerals.{is_digit_of}
 use Rattle.ef_token.specs.Lexeme.{IsIllegalEscape}
+use Rattle.ef_base.proofs.Classes.{each_append}
 use Rattle.ef_scan.specs.declared.cursor.Cursor.{Cursor}
 use Rattle.ef_scan.specs.Cursors.{IsStep, IsBehind}
 use Rattle.ef_scan.specs.Numbers.{IsDigit}
@@ -192,10 +193,6 @@ value-snoc : (base n : ℕ) (ds : List ℕ) (c : ℕ) → value_after base n (ds
 value-snoc base n [] c = refl
 value-snoc base n (d ∷ ds) c = value-snoc base (base * n + escape.digit_value d) ds c
 
-each_snoc : (p : ℕ → Bool) (cs : List ℕ) (c : ℕ) → Each p cs → p c ≡ true → Each p (cs ++ c ∷ [])
-each_snoc p [] c h k = (k, tt)
-each_snoc p (d ∷ cs) c h k = (h.0, each_snoc p cs c h.1 k)
-
 pub hex_more : (first second third : Cursor) (value a next : ℕ) → HexTo first second value → IsDigit 16 second a third
     → ((n : ℕ) → IsCapped n value → IsCapped (16 * n + a) next) → HexTo first third next
 hex_more first second third value a next h k f =
@@ -205,7 +202,7 @@ hex_more first second third value a next h k f =
       front = h.front ++ k.c ∷ [];
       behind = behind_step first second third h.front k.c h.behind k.step;
       some = omega (arith, length-append h.front (k.c ∷ []));
-      each = each_snoc is_hex h.front k.c h.each x.0;
+      each = each_append is_hex h.front (k.c ∷ []) h.each (x.0, tt);
       capped = subst (λ n. IsCapped n next) v (f (value_after 16 0 h.front) h.capped);
     }
 

@@ -15,7 +15,8 @@ use Rattle.ef_scan.specs.Cursors.{IsInText, IsStep, IsBehind, is_plain}
 use Rattle.ef_token.specs.Sorts.{sort, BeginsAs}
 use Rattle.ef_scan.specs.Symbols.{Fits, IsLongestSymbol}
 use Rattle.ef_scan.specs.Verdicts.{IsLexemeAt}
-use Rattle.ef_scan.proofs.Cursors.{each_ascii, printing_plain}
+use Rattle.ef_base.proofs.Fronts.{each_ascii}
+use Rattle.ef_scan.proofs.Cursors.{plain_small, printing_plain}
 use Rattle.ef_token.proofs.Spellings.{symbol_facts}
 use Rattle.ef_token.proofs.Lexemes.{shape_at, begins_no_gap, lexeme_no_gap}
 use Rattle.ef_token.proofs.Faults.{FaultShape, tilde, too_long, fault_at}
@@ -26,7 +27,7 @@ use Rattle.ef_scan.proofs.Standing.{lexeme_at}
 bytes_plain : (text front rest : List ℕ) → IsUtf8 text → chars text ≡ front ++ rest → Each is_plain front → (more : List ℕ) × (text ≡ front ++ more)
 bytes_plain text front rest u e h = (
   encode_utf8_all rest,
-  sym (encodes-chars text u) ∙ ap encode_utf8_all e ∙ encodes-append front rest ∙ ap (λ t. t ++ encode_utf8_all rest) (encodes-IsAscii front (each_ascii front h)),
+  sym (encodes-chars text u) ∙ ap encode_utf8_all e ∙ encodes-append front rest ∙ ap (λ t. t ++ encode_utf8_all rest) (encodes-IsAscii front (each_ascii is_plain plain_small front h)),
 )
 
 pub symbol_front : (text : List ℕ) (s : Sym) (width : ℕ) → IsLongestSymbol text s width → take width text ≡ sym_text s

@@ -1,6 +1,7 @@
 -- Lexemes and faults as the scanner finds them at a place.
 use Rattle.std.specs.Prelude.{ℕ, ◌^◌, ◌<◌, ◌≤◌, ◌≡◌, ◌⊎◌, List, length, chars, encode_utf8_all}
 use Rattle.ef_base.specs.Cut.{Longest}
+use Rattle.ef_base.specs.FaultTable as table
 use Rattle.ef_token.specs.Lexeme as x
 use Rattle.ef_token.specs.Lexeme.{Lexeme, IsLexeme}
 use Rattle.ef_token.specs.ScanFaults.{Fails, IsFault, IsFaultless}
@@ -40,7 +41,7 @@ pub record IsIntegerAt (first : Cursor) (n : ℕ) (second : Cursor) : Type 0 whe
   pub behind : IsBehind first second front
   pub lexeme : IsLexeme (x.integer n) front (chars second.rest.now)
   pub longest : Longest IsLexeme front (chars second.rest.now)
-  pub others : (code : ℕ) → Fails code (chars first.rest.now) → 504 ≤ code
+  pub others : (code : ℕ) → Fails code (chars first.rest.now) → table.integer_too_large ≤ code
 
 -- the same for an atom which may be too long, by the sort of its first character
 pub record IsAtomAt (first : Cursor) (cs : List ℕ) (second : Cursor) : Type 0 where
@@ -51,7 +52,7 @@ pub record IsAtomAt (first : Cursor) (cs : List ℕ) (second : Cursor) : Type 0 
   pub sort : ℕ
   pub is_atom : (sort ≡ 0) ⊎ (sort ≡ 4)
   pub begins : BeginsAs sort (chars first.rest.now)
-  pub others : (code : ℕ) → Fails code (chars first.rest.now) → 105 ≤ code
+  pub others : (code : ℕ) → Fails code (chars first.rest.now) → table.atom_too_long ≤ code
 
 abbrev pub IsVerdict : Cursor → Verdict → Type 0
 IsVerdict first (verdict.Found piece second) = (l : Lexeme) × Holds piece l × IsLexemeAt first l second

@@ -10,11 +10,11 @@ ghost use Rattle.ef_scan.specs.Gathered.{Gathers};
 ghost use Rattle.ef_scan.specs.Parts.{IsPart, IsShort, placed};
 
 use crate::class::Class;
-use crate::codes::NOT_UTF8;
 use crate::cursor::Cursor;
 use crate::gathered::{Gathered, alone};
 use crate::kind::kind_of;
 use crate::part::{Part, next_part};
+use ef_base::codes::NOT_UTF8;
 use ef_base::{Names, NoMemory, Place};
 use ef_token::{ScannedForm, Token};
 use std::alloc::Global;

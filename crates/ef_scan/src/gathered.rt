@@ -12,9 +12,9 @@ ghost use Rattle.ef_token.specs.Parts.{Part, lexeme, comment, fault};
 ghost use Rattle.ef_scan.specs.Scan.{HasCoding};
 ghost use Rattle.ef_scan.specs.Gathered.{AreFormsOf, Gathers};
 
-use crate::codes::{LATIN, UNENDED};
 use crate::coding::has_coding;
-use ef_base::{Bytes, Fault, NoMemory, Place};
+use ef_base::codes::{LATIN, NO_FULL_STOP};
+use ef_base::{Fault, NoMemory, Place};
 use ef_token::{ScannedForm, Token, TokenKind};
 use std::alloc::Global;
 use std::mem;
@@ -93,7 +93,7 @@ impl Gathered {
         }
         match self.first_place() {
             None => Ok(self.done),
-            Some(place) => with_form(self.done, faulty(alloc, place, UNENDED)),
+            Some(place) => with_form(self.done, faulty(alloc, place, NO_FULL_STOP)),
         }
     }
 
@@ -118,11 +118,7 @@ fn is_dot(kind: &TokenKind) -> bool
 fn faulty(alloc: Global, place: Place, code: u16) -> ScannedForm
     ensures { (f : Fault) × (result ≡ ScannedForm.Faulty f) × (f.place ≡ place) × (f.code ≡ code) × (f.words ≡ []) }
 {
-    ScannedForm::Faulty(Fault {
-        place,
-        code,
-        words: Bytes::new(alloc),
-    })
+    ScannedForm::Faulty(Fault::plain(alloc, place, code))
 }
 
 fn with_form(forms: Vec<ScannedForm>, form: ScannedForm) -> Result<Vec<ScannedForm>, NoMemory>

@@ -7,10 +7,10 @@ ghost use Rattle.ef_scan.specs.Cursors.{IsBehind, IsInText, IsStep};
 ghost use Rattle.ef_scan.specs.Numbers.{IsNumber, IsValue};
 ghost use Rattle.ef_scan.specs.Verdicts.{IsIntegerAt, IsVerdict};
 
-use crate::codes::{FLOAT, ILLEGAL_BASE, NO_DIGIT, TOO_LARGE};
 use crate::cursor::Cursor;
 use crate::number::{Number, digit, numeral};
 use crate::verdict::{Piece, Verdict};
+use ef_base::codes::{FLOAT, ILLEGAL_BASE, ILLEGAL_NUMBER, INTEGER_TOO_LARGE};
 
 /// What begins with a decimal numeral.
 pub(crate) fn integer<'a>(number: Number<'a>) -> Verdict<'a>
@@ -43,7 +43,7 @@ fn valued<'a>(value: Option<u128>, behind: Cursor<'a>) -> Verdict<'a>
 {
     match value {
         Some(value) => Verdict::Found(Piece::Int(value), behind),
-        None => Verdict::Fault(TOO_LARGE),
+        None => Verdict::Fault(INTEGER_TOO_LARGE),
     }
 }
 
@@ -56,7 +56,7 @@ fn based<'a>(number: Number<'a>, behind: Cursor<'a>) -> Verdict<'a>
         return Verdict::Fault(ILLEGAL_BASE);
     };
     let Some(digits) = numeral(behind, base) else {
-        return Verdict::Fault(NO_DIGIT);
+        return Verdict::Fault(ILLEGAL_NUMBER);
     };
     valued(digits.value, digits.behind)
 }

@@ -9,10 +9,6 @@ ghost use Rattle.ef_token.specs.Sorts.{BeginsAs, sort};
 ghost use Rattle.ef_scan.specs.Verdicts.{IsAtomAt, IsVerdict};
 
 use crate::class::{Class, is_white};
-use crate::codes::{
-    ATOM_TOO_LONG, ILLEGAL_CHARACTER, ILLEGAL_ESCAPE, LONE_DOLLAR, SIGIL, TRIPLE_QUOTES,
-    UNTERMINATED,
-};
 use crate::cursor::{Cursor, Run};
 use crate::escape::{Written, next_written};
 use crate::integer::integer;
@@ -21,6 +17,10 @@ use crate::quoted::{Inner, inner_text};
 use crate::symbol::longest_symbol;
 use crate::verdict::{Piece, Verdict};
 use ef_base::NoMemory;
+use ef_base::codes::{
+    ATOM_TOO_LONG, ILLEGAL_CHARACTER, ILLEGAL_ESCAPE, LONE_DOLLAR, SIGIL, TRIPLE_QUOTES,
+    UNTERMINATED,
+};
 use ef_token::{Sym, begins_atom, begins_variable, word_of};
 use std::alloc::Global;
 

@@ -2,7 +2,6 @@
 #![tactic(auto)]
 
 mod class;
-mod codes;
 mod coding;
 mod cursor;
 mod escape;
@@ -15,11 +14,7 @@ mod number;
 mod part;
 mod quoted;
 mod skip;
-#[cfg(test)]
-mod spelling_tests;
 mod symbol;
-#[cfg(test)]
-mod tests;
 mod verdict;
 
 pub use forms::scan;

@@ -1,13 +1,14 @@
 -- What the first character of a text tells of its lexemes, and that a text with what stands behind it is one lexeme.
-use Rattle.std.specs.Prelude.{ℕ, ◌<◌, ◌≤◌, ◌≡◌, ◌≢◌, Bool, true, false, List, [], ◌∷◌, ◌++◌, map, Some, refl}
+use Rattle.std.specs.Prelude.{ℕ, ◌<◌, ◌≤◌, ◌≡◌, ◌≢◌, true, false, List, [], ◌∷◌, ◌++◌, map, Some, refl}
 use Rattle.std.proofs.Common.{ap, ◌∙◌, sym, subst, arith, inl, inr, append-nil}
 use Rattle.std.proofs.lemmas.Bool.Decides.{nat_tests}
-use Rattle.ef_base.specs.Characters.{Each, BeginsAndGoesOn, is_white, is_digit}
+use Rattle.ef_base.specs.Characters.{BeginsAndGoesOn, is_white, is_digit}
 use Rattle.ef_base.specs.Cut.{Longest}
 use Rattle.ef_base.specs.Taken.{Begins}
 use Rattle.ef_base.specs.Escape.{Written}
 use Rattle.ef_base.proofs.CutLaws.{OneCut, same_front}
 use Rattle.ef_base.proofs.Escapes.{one_written, same_rest}
+use Rattle.ef_base.proofs.Classes.{each_append, each_behind}
 use Rattle.ef_token.specs.declared.word.Word.{Word}
 use Rattle.ef_token.specs.declared.word.Sym.{Sym}
 use Rattle.ef_token.specs.declared.word.Sym.TheVariants as symbols
@@ -192,14 +193,6 @@ begins_no_gap n (c ∷ cs) h k = no_gap c n h k
 
 gap_of : (c : ℕ) → is_white c ≡ true → begins_gap c ≡ true
 gap_of c h = rw h refl
-
-pub each_append : (p : ℕ → Bool) (a b : List ℕ) → Each p a → Each p b → Each p (a ++ b)
-each_append p [] b h k = k
-each_append p (c ∷ a) b h k = (h.0, each_append p a b h.1 k)
-
-pub each_behind : (p : ℕ → Bool) (a b : List ℕ) → Each p (a ++ b) → Each p b
-each_behind p [] b h = h
-each_behind p (c ∷ a) b h = each_behind p a b h.1
 
 pub lexeme_no_gap : (l : Lexeme) (front rest : List ℕ) → IsLexeme l front rest → Begins begins_gap false front
 lexeme_no_gap l front rest h =

@@ -1,4 +1,3 @@
-pub mod Hex
 pub mod Putting
 pub mod Names
 pub mod Spellings

@@ -10,7 +10,8 @@ use Rattle.ef_token.specs.Letters.{begins_gap}
 use Rattle.ef_token.specs.Lexeme.{Lexeme, IsLexeme, EndsForm}
 use Rattle.ef_token.specs.ScanFaults.{IsFault, IsFaultless, Skips, to_end, to_dot, over}
 use Rattle.ef_token.specs.Parts.{Part, lexeme, comment, fault, Gap, Spelled, stays_on_line}
-use Rattle.ef_token.proofs.Lexemes.{lexeme_no_gap, each_append, each_behind, one_lexeme}
+use Rattle.ef_base.proofs.Classes.{each_append, each_behind}
+use Rattle.ef_token.proofs.Lexemes.{lexeme_no_gap, one_lexeme}
 use Rattle.ef_token.proofs.Faults.{fault_no_gap, one_fault}
 
 not_white : (c : ℕ) → begins_gap c ≡ false → is_white c ≡ false

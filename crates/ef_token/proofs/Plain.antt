@@ -1,21 +1,12 @@
 -- Texts of ASCII, whose characters are their bytes, and texts of characters.
-use Rattle.std.specs.Prelude.{ℕ, ◌<◌, ◌≡◌, ◌&&◌, Bool, true, false, List, [], ◌∷◌, ◌++◌, nat_lt, encode_utf8_all, refl}
+use Rattle.std.specs.Prelude.{ℕ, ◌≡◌, ◌&&◌, Bool, true, false, List, [], ◌∷◌, ◌++◌, encode_utf8_all, refl}
 use Rattle.std.proofs.Common.{ap, ◌∙◌, arith}
 use Rattle.std.proofs.lemmas.Bool.Decides.{nat_tests}
 use Rattle.std.proofs.lemmas.Str.{encode_ascii}
 use Rattle.std.proofs.Math.Utf8.{scalar, scalars, low_scalar}
 use Rattle.ef_base.specs.Characters.{Each}
+use Rattle.ef_base.proofs.Classes.{is_ascii, ascii_small, each_weaker}
 use Rattle.ef_token.specs.Letters.{is_printing}
-
-abbrev pub is_ascii : ℕ → Bool
-is_ascii c = nat_lt c 128
-
-pub ascii_small : (c : ℕ) → is_ascii c ≡ true → c < 128
-ascii_small c h = grind (arith, nat_tests)
-
-pub each_weaker : (p q : ℕ → Bool) (cs : List ℕ) → ((c : ℕ) → p c ≡ true → q c ≡ true) → Each p cs → Each q cs
-each_weaker p q [] f h = tt
-each_weaker p q (c ∷ cs) f h = (f c h.0, each_weaker p q cs f h.1)
 
 plain_is_ascii : (c : ℕ) → is_printing c ≡ true → is_ascii c ≡ true
 plain_is_ascii c h = grind (arith, nat_tests)

@@ -22,7 +22,7 @@ use Rattle.ef_token.specs.TokenForm.{KindOf}
 use Rattle.ef_token.specs.Spelling.{Spells}
 use Rattle.ef_token.specs.Scans.{Form, tokens, Forms, no_more, ended, broken, unended, FormsOf, latin, unicode, Scans, not_utf8, is_cut}
 use Rattle.ef_token.specs.ReadsBack.{HasKind, AreWith, IsDot, token_at, ReadsBack}
-use Rattle.ef_token.proofs.Lexemes.{each_append, each_behind}
+use Rattle.ef_base.proofs.Classes.{each_append, each_behind}
 use Rattle.ef_token.proofs.Parting.{longest_lexeme}
 use Rattle.ef_token.proofs.OneScan.{one_scan}
 use Rattle.ef_token.proofs.Plain.{encodes_ascii, all_scalars, each_scalar}

@@ -21,8 +21,10 @@ use Rattle.ef_token.proofs.Lexemes as shape
 use Rattle.ef_token.proofs.Lexemes.{shape_begins}
 use Rattle.ef_token.proofs.Standing.{Stands, atom_continues, variable_continues, atom_stands, word_stands, variable_stands, quoted_stands, string_stands, character_stands, symbol_stands, short_atom}
 use Rattle.ef_token.proofs.Integers.{HasFraction, decimal_stands, small_integer}
-use Rattle.ef_token.proofs.Plain.{is_ascii, each_weaker, encodes_ascii, ascii_scalar, plain_ascii}
-use Rattle.ef_token.proofs.Escaped.{escaped_written, alone_written, alone_ascii, spelled_quoted, quoted_ascii, quoted_scalars, written_scalar}
+use Rattle.ef_base.proofs.Classes.{each_append, each_weaker, is_ascii}
+use Rattle.ef_token.proofs.Plain.{encodes_ascii, ascii_scalar, plain_ascii}
+use Rattle.ef_base.proofs.EscapedTexts.{escaped_written}
+use Rattle.ef_token.proofs.Escaped.{scalar_character, alone_written, alone_ascii, spelled_quoted, quoted_ascii, quoted_scalars, written_scalar}
 
 -- a space and a full stop
 abbrev pub behind : List ℕ
@@ -83,7 +85,7 @@ not_three (c ∷ cs) more h e =
     let rest = flat_map (escaped 34) cs ++ 34 ∷ behind in
     let whole : escaped 34 c ++ rest ≡ 34 ∷ 34 ∷ more =
     sym (append_assoc (escaped 34 c) (flat_map (escaped 34) cs) (34 ∷ behind)) ∙ sym (append_assoc (flat_map (escaped 34) (c ∷ cs)) (34 ∷ []) behind) ∙ e in
-    not_quote 34 c (escaped 34 c) rest (34 ∷ more) refl (escaped_written 34 c rest refl h.0) (sym whole)
+    not_quote 34 c (escaped 34 c) rest (34 ∷ more) refl (escaped_written 34 c rest refl (scalar_character c h.0)) (sym whole)
 
 string_read : (cs : List ℕ) → Each scalar cs → IsRead (x.string cs) (quoted 34 cs)
 string_read cs h =
@@ -124,7 +126,7 @@ more_digits n ds l h =
       value =
           value-append 10 0 ds ((48 + n % 10) ∷ []) ∙ value_digit 10 (value_of 10 ds) (48 + n % 10) (omega arith) (digit_is (n % 10) small)
           ∙ omega (arith, h.value, digit_is_value (n % 10) small);
-      each = shape.each_append is_ascii ds ((48 + n % 10) ∷ []) h.each (digit_ascii (n % 10) small, tt);
+      each = each_append is_ascii ds ((48 + n % 10) ∷ []) h.each (digit_ascii (n % 10) small, tt);
     }
 
 decimal_spells : (n : ℕ) → n < 2 ^ 127 → SpellsDecimal n (decimal n)

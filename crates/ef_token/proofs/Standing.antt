@@ -17,7 +17,8 @@ use Rattle.ef_token.specs.Lexeme.{Lexeme, IsLexeme, IsQuoted, Quoted, EndsForm}
 use Rattle.ef_token.specs.ScanFaults.{Fails, IsFaultless, HasNone}
 use Rattle.ef_token.proofs.Spellings.{word_facts, symbol_facts}
 use Rattle.ef_token.proofs.Quoting.{one_quoted, not_written, written_begins}
-use Rattle.ef_token.proofs.Lexemes.{Shape, bare, reserved, capital, sign, stop, quoted, text, dollar, shape_at, same_lexeme, each_behind, begins_more}
+use Rattle.ef_token.proofs.Lexemes.{Shape, bare, reserved, capital, sign, stop, quoted, text, dollar, shape_at, same_lexeme, begins_more}
+use Rattle.ef_base.proofs.Classes.{each_behind}
 use Rattle.ef_token.proofs.Faults.{FaultShape, open_atom, open_string, ill_atom, ill_string, ill_character, too_long, tilde, triple, fault_at, atom_sort}
 use Rattle.ef_token.proofs.Faults as f
 use Rattle.ef_token.proofs.Parting.{nothing_more}

@@ -1,6 +1,7 @@
 -- Erlang's classes of characters, with the letters of Latin-1 (Reference Manual, character set and atoms).
 use Rattle.std.specs.Prelude.{ℕ, ◌==◌, ◌||◌, Bool}
 use Rattle.ef_base.specs.Characters.{is_within, is_digit, is_lower, is_upper, is_white}
+pub use Rattle.ef_base.specs.Escaped.{is_quote}
 
 -- a small letter, with which an unquoted atom begins: U+00F7 is none
 abbrev pub begins_atom : ℕ → Bool
@@ -13,10 +14,6 @@ begins_variable c = is_upper c || is_within 192 214 c || is_within 216 222 c
 -- what both go on with: letters, digits, `_` and `@`
 abbrev pub continues_name : ℕ → Bool
 continues_name c = begins_atom c || begins_variable c || is_digit c || c == 64
-
--- a single quote for atoms, a double one for strings
-abbrev pub is_quote : ℕ → Bool
-is_quote c = c == 39 || c == 34
 
 -- white space, or the `%` of a comment
 abbrev pub begins_gap : ℕ → Bool

@@ -7,6 +7,8 @@ use Rattle.ef_base.specs.Texts.{Texts, AllDiffer}
 use Rattle.ef_base.specs.Characters.{Each}
 use Rattle.ef_base.specs.Positions.{Position, first_position, position_after, place_at}
 use Rattle.ef_base.specs.Cut.{Placed}
+use Rattle.ef_base.specs.FaultTable as table
+use Rattle.ef_base.specs.NamedFaults.{plain}
 use Rattle.ef_token.specs.Lexeme.{Lexeme, AreTokens, full_stop}
 use Rattle.ef_token.specs.Parts.{Part, lexeme, comment, fault, CutsInto, lexemes_of}
 use Rattle.ef_token.specs.declared.token.Token.{Token}
@@ -26,7 +28,7 @@ AreComments (p ∷ ps) = ((cs : List ℕ) × (p.lexeme ≡ comment cs)) × AreCo
 
 -- a scanning fault has no words
 abbrev pub fault_at : ℕ → Position → ℕ → Fault
-fault_at file at code = record { place = place_at file at; code = code; words = [] }
+fault_at file at code = plain (place_at file at) code
 
 -- a form of tokens, or the fault of a faulty form
 pub data Form : Type 0 where
@@ -44,7 +46,7 @@ pub data Forms (all : Texts) (file : ℕ) : List (Placed Part) → List Form →
       → Forms all file more forms → Forms all file (ps ++ p ∷ more) (faulty (fault_at file p.at code) ∷ forms)
   -- or the file ends in it
   unended : (ps : List (Placed Part)) (first : Placed Lexeme) (ls : List (Placed Lexeme)) → IsOpen ps → lexemes_of ps ≡ first ∷ ls
-      → Forms all file ps (faulty (fault_at file first.at 110) ∷ [])
+      → Forms all file ps (faulty (fault_at file first.at table.no_full_stop) ∷ [])
 
 -- ---- comments that name Latin-1
 
@@ -74,7 +76,7 @@ NoCoding (p ∷ ps) = (IsCoding p → ⊥) × NoCoding ps
 -- the forms that a whole text's parts are
 pub data FormsOf (all : Texts) (file : ℕ) : List (Placed Part) → List Form → Type 0 where
   -- what names Latin-1 is one faulty form, at the first such comment
-  latin : (ps more : List (Placed Part)) (p : Placed Part) → NoCoding ps → IsCoding p → FormsOf all file (ps ++ p ∷ more) (faulty (fault_at file p.at 112) ∷ [])
+  latin : (ps more : List (Placed Part)) (p : Placed Part) → NoCoding ps → IsCoding p → FormsOf all file (ps ++ p ∷ more) (faulty (fault_at file p.at table.latin) ∷ [])
   unicode : (ps : List (Placed Part)) (forms : List Form) → NoCoding ps → Forms all file ps forms → FormsOf all file ps forms
 
 -- ---- the whole
@@ -82,7 +84,7 @@ pub data FormsOf (all : Texts) (file : ℕ) : List (Placed Part) → List Form �
 -- the bytes of a file are scanned to these forms, under a table of names
 pub data Scans (all : Texts) (file : ℕ) (text : List ℕ) : List Form → Type 0 where
   -- what is not UTF-8 is one faulty form, at its first bad byte
-  not_utf8 : (n : ℕ) → IsValidUpTo text n → Scans all file text (faulty (fault_at file (position_after first_position (chars (take n text))) 101) ∷ [])
+  not_utf8 : (n : ℕ) → IsValidUpTo text n → Scans all file text (faulty (fault_at file (position_after first_position (chars (take n text))) table.not_utf8) ∷ [])
   is_cut : (ps : List (Placed Part)) (forms : List Form) → IsUtf8 text → CutsInto first_position (chars text) ps → FormsOf all file ps forms → Scans all file text forms
 
 -- the scanned forms are these

@@ -1,23 +1,13 @@
 -- How the token of a lexeme is spelled: the bytes of its source text.
-use Rattle.std.specs.Prelude.{ℕ, false, ◌≡◌, ◌≢◌, ◌⊎◌, ◌==◌, ◌||◌, nat_lt, List, [], ◌∷◌, ◌++◌, flat_map, codes, decimal, encode_utf8_all, if◌then◌else◌}
-use Rattle.std.specs.Fmt.{digits}
+use Rattle.std.specs.Prelude.{ℕ, ◌≡◌, ◌≢◌, ◌⊎◌, ◌==◌, ◌||◌, nat_lt, List, [], ◌∷◌, ◌++◌, flat_map, decimal, encode_utf8_all, if◌then◌else◌}
 use Rattle.ef_base.specs.Characters.{BeginsAndGoesOn}
+pub use Rattle.ef_base.specs.Escaped.{hex_escape, escaped}
 use Rattle.ef_base.specs.Texts.{Texts}
 use Rattle.ef_token.specs.Letters.{begins_atom, continues_name}
 use Rattle.ef_token.specs.Lexeme.{Lexeme, atom, variable, integer, character, string, word, symbol, full_stop, IsKind}
 use Rattle.ef_token.specs.Words.{word_text, sym_text}
 use Rattle.ef_token.specs.declared.word.Word.{Word}
 use Rattle.ef_token.specs.declared.token.TokenKind.{TokenKind}
-
--- `\x{H}`, in lower-case hexadecimal without leading zeros
-abbrev pub hex_escape : ℕ → List ℕ
-hex_escape c = codes "\\x{" ++ (digits 16 false c ++ codes "}")
-
--- in quotes, `\` stands before the quote and before `\`
-abbrev pub escaped : ℕ → ℕ → List ℕ
-escaped quote c =
-    if c == quote || c == 92 then 92 ∷ c ∷ []
-    else (if nat_lt c 32 || nat_lt 126 c then hex_escape c else c ∷ [])
 
 abbrev pub quoted : ℕ → List ℕ → List ℕ
 quoted quote cs = quote ∷ (flat_map (escaped quote) cs ++ quote ∷ [])
@@ -39,6 +29,11 @@ IsSpelling (string cs) bytes = bytes ≡ quoted 34 cs
 IsSpelling (word w) bytes = bytes ≡ word_text w
 IsSpelling (symbol s) bytes = bytes ≡ sym_text s
 IsSpelling full_stop bytes = bytes ≡ 46 ∷ []
+
+-- the old bytes stand in front of the new
+pub record Keeps (old new : List ℕ) : Type 0 where
+  pub more : List ℕ
+  pub is : new ≡ old ++ more
 
 -- behind the old bytes stands the spelling of each lexeme whose token is of this kind
 abbrev pub Spells : Texts → TokenKind → List ℕ → List ℕ → Type 0

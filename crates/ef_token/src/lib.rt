@@ -13,6 +13,3 @@ pub use class::{begins_atom, begins_variable, continues_name};
 pub use spelling::spell;
 pub use token::{ScannedForm, Token, TokenKind};
 pub use word::{Sym, Word, word_of};
-
-#[cfg(test)]
-mod tests;

@@ -1,6 +1,6 @@
 use Rattle.std.proofs.Common.{arith, rules, ◌≡◌, ◌<◌, true, get_or, length, sym, subst, ◌∙◌}
 use Rattle.ef_scan.specs.Cursors.{is_plain_of}
-use Rattle.ef_scan.proofs.Cursors.{each_take_more}
+use Rattle.ef_base.proofs.Fronts.{each_take_more}
 use Rattle.ef_scan.proofs.class.Class.plain_width.Goals as goal
 
 pub loop-byte-preserved : goal.loop-byte-preserved

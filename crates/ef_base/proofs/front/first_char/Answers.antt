@@ -2,7 +2,7 @@ use Rattle.std.proofs.Common.{rules, arith, length, ◌+◌, ◌≡◌, ◌++◌
 use Rattle.std.specs.Prelude.{encode_utf8}
 use Rattle.std.specs.Char.{len_utf8}
 use Rattle.std.proofs.lemmas.Str.{chars_past_char, IsUtf8-past_char, length-encode, len_utf8_bounds}
-use Rattle.ef_token.proofs.spelling.first.Goals as goal
+use Rattle.ef_base.proofs.front.first_char.Goals as goal
 
 pub returns-clause-some : goal.returns-clause-some
 returns-clause-some c =

@@ -6,10 +6,10 @@ use Rattle.std.specs.Prelude.{true}
 use Rattle.ef_base.specs.declared.name.Name.{Name}
 use Rattle.ef_base.specs.declared.fault.Place.{Place}
 use Rattle.ef_base.specs.Texts.{Texts}
-use Rattle.ef_forms.specs.Tree.{Tree, Trees, Clauses, tree, int, atom, var, any, list, list_to, tuple, matching, call, remote, case_of, end, more, no_clauses, clause}
-use Rattle.ef_forms.specs.Ways.{NameSet, Way, all_names, on_some, on_all, use_faults, name_faults, pattern_faults, patterns_faults, pattern_clauses_faults, faults, all_faults, body_faults, clauses_faults}
+use Rattle.ef_forms.specs.Tree.{Tree, Trees, Guards, Clauses, tree, int, atom, var, any, list, list_to, tuple, matching, call, remote, case_of, end, more, no_guard, or_guard, no_clauses, clause}
+use Rattle.ef_forms.specs.Ways.{NameSet, Way, all_names, on_some, on_all, use_faults, name_faults, pattern_faults, patterns_faults, pattern_clauses_faults, faults, all_faults, body_faults, clauses_faults, pattern_guards_faults, guards_faults}
 use Rattle.ef_forms.proofs.Growth.{given, Grows, grows_bind, after_given, after_some, after_all}
-use Rattle.ef_forms.proofs.Grows.{grows_ways}
+use Rattle.ef_forms.proofs.Grows.{grows_ways, grows_body}
 use Rattle.ef_forms.proofs.Ways.{both}
 
 pub record Alike (a b : List NameSet) : Type 0 where
@@ -60,9 +60,14 @@ module _ (all : Texts) where
     same_patterns_faults end a b h = refl
     same_patterns_faults (more e es) a b h = both (same_pattern_faults e a b h) (same_patterns_faults es a b h)
 
+    pub same_pattern_guards_faults : (gs : Guards) (a b : List NameSet) → Alike a b → pattern_guards_faults all gs a ≡ pattern_guards_faults all gs b
+    same_pattern_guards_faults no_guard a b h = refl
+    same_pattern_guards_faults (or_guard es gs) a b h = both (same_patterns_faults es a b h) (same_pattern_guards_faults gs a b h)
+
     pub same_pattern_clauses_faults : (cs : Clauses) (a b : List NameSet) → Alike a b → pattern_clauses_faults all cs a ≡ pattern_clauses_faults all cs b
     same_pattern_clauses_faults no_clauses a b h = refl
-    same_pattern_clauses_faults (clause p ps g body cs) a b h = both (same_patterns_faults ps a b h) (both (same_patterns_faults body a b h) (same_pattern_clauses_faults cs a b h))
+    same_pattern_clauses_faults (clause p ps g body cs) a b h =
+        both (same_patterns_faults ps a b h) (both (same_pattern_guards_faults g a b h) (both (same_patterns_faults body a b h) (same_pattern_clauses_faults cs a b h)))
 
   mutual
     pub same_faults : (e : Tree) (a b : List NameSet) → Alike a b → faults all e a ≡ faults all e b
@@ -86,7 +91,12 @@ module _ (all : Texts) where
     same_body_faults end a b h = refl
     same_body_faults (more e es) a b h = both (same_faults e a b h) (same_body_faults es _ _ (alike_after _ _ _ (grows_ways e) a b h))
 
+    pub same_guards_faults : (gs : Guards) (a b : List NameSet) → Alike a b → guards_faults all gs a ≡ guards_faults all gs b
+    same_guards_faults no_guard a b h = refl
+    same_guards_faults (or_guard es gs) a b h = both (same_body_faults es a b h) (same_guards_faults gs _ _ (alike_after _ _ _ (grows_body es) a b h))
+
     pub same_clauses_faults : (cs : Clauses) (a b : List NameSet) → Alike a b → clauses_faults all cs a ≡ clauses_faults all cs b
     same_clauses_faults no_clauses a b h = refl
     same_clauses_faults (clause p ps g body cs) a b h =
-        both (same_patterns_faults ps a b h) (both (same_body_faults body _ _ (alike_after _ _ _ (grows_bind (all_names ps)) a b h)) (same_clauses_faults cs a b h))
+        let inside = alike_after _ _ _ (grows_bind (all_names ps)) a b h in
+        both (same_patterns_faults ps a b h) (both (same_guards_faults g _ _ inside) (both (same_body_faults body _ _ inside) (same_clauses_faults cs a b h)))

@@ -4,9 +4,9 @@ use Rattle.std.specs.Prelude.{List, [], ◌∷◌, ◌++◌, Bool, true, false, 
 use Rattle.ef_base.specs.declared.name.Name.{Name}
 use Rattle.ef_base.specs.declared.fault.Place.{Place}
 use Rattle.ef_base.specs.Texts.{Texts}
-use Rattle.ef_forms.specs.Tree.{Tree, Trees, Clauses, tree, int, atom, var, any, list, list_to, tuple, matching, call, remote, case_of, end, more, no_clauses, clause}
-use Rattle.ef_forms.specs.Ways.{NameSet, all_names, on_some, on_all, unbound, unsafe, use_faults, name_faults, pattern_faults, patterns_faults, pattern_clauses_faults, faults, all_faults, body_faults, clauses_faults}
-use Rattle.ef_forms.proofs.Within.{Within, within_ways, within_bind}
+use Rattle.ef_forms.specs.Tree.{Tree, Trees, Guards, Clauses, tree, int, atom, var, any, list, list_to, tuple, matching, call, remote, case_of, end, more, no_guard, or_guard, no_clauses, clause}
+use Rattle.ef_forms.specs.Ways.{NameSet, all_names, on_some, on_all, unbound, unsafe, use_faults, name_faults, pattern_faults, patterns_faults, pattern_clauses_faults, faults, all_faults, body_faults, clauses_faults, pattern_guards_faults, guards_faults}
+use Rattle.ef_forms.proofs.Within.{Within, within_ways, within_body, within_bind}
 
 no_first : {A : Type 0} (a b : List A) → a ++ b ≡ [] → a ≡ []
 no_first [] b h = refl
@@ -58,10 +58,15 @@ module _ (all : Texts) where
     fewer_patterns_faults end a b w h = refl
     fewer_patterns_faults (more e es) a b w h = both_none _ _ _ _ (fewer_pattern_faults e a b w) (fewer_patterns_faults es a b w) h
 
+    pub fewer_pattern_guards_faults : (gs : Guards) (a b : List NameSet) → Within a b → pattern_guards_faults all gs b ≡ [] → pattern_guards_faults all gs a ≡ []
+    fewer_pattern_guards_faults no_guard a b w h = refl
+    fewer_pattern_guards_faults (or_guard es gs) a b w h = both_none _ _ _ _ (fewer_patterns_faults es a b w) (fewer_pattern_guards_faults gs a b w) h
+
     pub fewer_pattern_clauses_faults : (cs : Clauses) (a b : List NameSet) → Within a b → pattern_clauses_faults all cs b ≡ [] → pattern_clauses_faults all cs a ≡ []
     fewer_pattern_clauses_faults no_clauses a b w h = refl
     fewer_pattern_clauses_faults (clause p ps g body cs) a b w h =
-        both_none _ _ _ _ (fewer_patterns_faults ps a b w) (both_none _ _ _ _ (fewer_patterns_faults body a b w) (fewer_pattern_clauses_faults cs a b w)) h
+        both_none _ _ _ _ (fewer_patterns_faults ps a b w)
+        (both_none _ _ _ _ (fewer_pattern_guards_faults g a b w) (both_none _ _ _ _ (fewer_patterns_faults body a b w) (fewer_pattern_clauses_faults cs a b w))) h
 
   mutual
     pub fewer_faults : (e : Tree) (a b : List NameSet) → Within a b → faults all e b ≡ [] → faults all e a ≡ []
@@ -85,7 +90,13 @@ module _ (all : Texts) where
     fewer_body_faults end a b w h = refl
     fewer_body_faults (more e es) a b w h = both_none _ _ _ _ (fewer_faults e a b w) (fewer_body_faults es _ _ (within_ways a b w e)) h
 
+    pub fewer_guards_faults : (gs : Guards) (a b : List NameSet) → Within a b → guards_faults all gs b ≡ [] → guards_faults all gs a ≡ []
+    fewer_guards_faults no_guard a b w h = refl
+    fewer_guards_faults (or_guard es gs) a b w h = both_none _ _ _ _ (fewer_body_faults es a b w) (fewer_guards_faults gs _ _ (within_body a b w es)) h
+
     pub fewer_clauses_faults : (cs : Clauses) (a b : List NameSet) → Within a b → clauses_faults all cs b ≡ [] → clauses_faults all cs a ≡ []
     fewer_clauses_faults no_clauses a b w h = refl
     fewer_clauses_faults (clause p ps g body cs) a b w h =
-        both_none _ _ _ _ (fewer_patterns_faults ps a b w) (both_none _ _ _ _ (fewer_body_faults body _ _ (within_bind a b w (all_names ps))) (fewer_clauses_faults cs a b w)) h
+        let inside = within_bind a b w (all_names ps) in
+        both_none _ _ _ _ (fewer_patterns_faults ps a b w)
+        (both_none _ _ _ _ (fewer_guards_faults g _ _ inside) (both_none _ _ _ _ (fewer_body_faults body _ _ inside) (fewer_clauses_faults cs a b w))) h

@@ -4,9 +4,9 @@ use Rattle.std.specs.List.{flat_map}
 use Rattle.ef_base.specs.declared.name.Name.{Name}
 use Rattle.ef_base.specs.declared.fault.Place.{Place}
 use Rattle.ef_base.specs.Texts.{Texts, Extends, HasName}
-use Rattle.ef_forms.specs.Tree.{Tree, Trees, Clauses, FunctionTree, tree, int, atom, var, any, list, list_to, tuple, matching, call, remote, case_of, end, more, no_clauses, clause}
-use Rattle.ef_forms.specs.OfTable.{TreeOf, TreesOf, ClausesOf, FunctionOf}
-use Rattle.ef_forms.specs.Ways.{NameSet, faults, all_faults, body_faults, clauses_faults, function_faults, use_faults, name_faults, pattern_faults, patterns_faults, pattern_clauses_faults, ways, bind, all_names, no_names}
+use Rattle.ef_forms.specs.Tree.{Tree, Trees, Guards, Clauses, FunctionTree, tree, int, atom, var, any, list, list_to, tuple, matching, call, remote, case_of, end, more, no_guard, or_guard, no_clauses, clause}
+use Rattle.ef_forms.specs.OfTable.{TreeOf, TreesOf, GuardsOf, ClausesOf, FunctionOf}
+use Rattle.ef_forms.specs.Ways.{NameSet, faults, all_faults, body_faults, clauses_faults, function_faults, use_faults, name_faults, pattern_faults, patterns_faults, pattern_clauses_faults, ways, body_ways, bind, all_names, no_names, pattern_guards_faults, guards_faults}
 use Rattle.ef_forms.proofs.Built.{text_later}
 
 pub both : {A : Type 0} {a b c d : List A} → a ≡ b → c ≡ d → a ++ c ≡ b ++ d
@@ -37,9 +37,14 @@ module _ (now all : Texts) (later : Extends now all) where
     patterns_same end sets of = refl
     patterns_same (more e es) sets of = both (pattern_same e sets of.0) (patterns_same es sets of.1)
 
+    pattern_guards_same : (gs : Guards) (sets : List NameSet) → GuardsOf now gs → pattern_guards_faults all gs sets ≡ pattern_guards_faults now gs sets
+    pattern_guards_same no_guard sets of = refl
+    pattern_guards_same (or_guard es gs) sets of = both (patterns_same es sets of.0) (pattern_guards_same gs sets of.1)
+
     pattern_clauses_same : (cs : Clauses) (sets : List NameSet) → ClausesOf now cs → pattern_clauses_faults all cs sets ≡ pattern_clauses_faults now cs sets
     pattern_clauses_same no_clauses sets of = refl
-    pattern_clauses_same (clause p ps g body cs) sets of = both (patterns_same ps sets of.0) (both (patterns_same body sets of.2) (pattern_clauses_same cs sets of.3))
+    pattern_clauses_same (clause p ps g body cs) sets of =
+        both (patterns_same ps sets of.0) (both (pattern_guards_same g sets of.1) (both (patterns_same body sets of.2) (pattern_clauses_same cs sets of.3)))
 
   mutual
     faults_same : (e : Tree) (sets : List NameSet) → TreeOf now e → faults all e sets ≡ faults now e sets
@@ -63,10 +68,15 @@ module _ (now all : Texts) (later : Extends now all) where
     body_same end sets of = refl
     body_same (more e es) sets of = both (faults_same e sets of.0) (body_same es (flat_map (ways e) sets) of.1)
 
+    guards_same : (gs : Guards) (sets : List NameSet) → GuardsOf now gs → guards_faults all gs sets ≡ guards_faults now gs sets
+    guards_same no_guard sets of = refl
+    guards_same (or_guard es gs) sets of = both (body_same es sets of.0) (guards_same gs (flat_map (body_ways es) sets) of.1)
+
     clauses_same : (cs : Clauses) (sets : List NameSet) → ClausesOf now cs → clauses_faults all cs sets ≡ clauses_faults now cs sets
     clauses_same no_clauses sets of = refl
     clauses_same (clause p ps g body cs) sets of =
-        both (patterns_same ps sets of.0) (both (body_same body (flat_map (bind (all_names ps)) sets) of.2) (clauses_same cs sets of.3))
+        let inside = flat_map (bind (all_names ps)) sets in
+        both (patterns_same ps sets of.0) (both (guards_same g inside of.1) (both (body_same body inside of.2) (clauses_same cs sets of.3)))
 
 pub faults_later : (now all : Texts) (f : FunctionTree) → FunctionOf now f → Extends now all → function_faults all f ≡ function_faults now f
 faults_later now all f of later = clauses_same now all later f.clauses (no_names ∷ []) of.1

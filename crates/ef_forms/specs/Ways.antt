@@ -6,8 +6,9 @@ use Rattle.std.specs.List.{flat_map, list_any, list_all}
 use Rattle.ef_base.specs.declared.name.Name.{Name}
 use Rattle.ef_base.specs.declared.fault.Place.{Place}
 use Rattle.ef_base.specs.declared.fault.Fault.{Fault}
+use Rattle.ef_base.specs.NamedFaults as fault
 use Rattle.ef_base.specs.Texts.{Texts, text}
-use Rattle.ef_forms.specs.Tree.{Tree, Shape, Trees, Clauses, FunctionTree, tree, int, atom, var, any, list, list_to, tuple, matching, call, remote, case_of, end, more, no_clauses, clause}
+use Rattle.ef_forms.specs.Tree.{Tree, Shape, Trees, Guards, Clauses, FunctionTree, tree, int, atom, var, any, list, list_to, tuple, matching, call, remote, case_of, end, more, no_guard, or_guard, no_clauses, clause}
 
 -- a set of names, each by its number
 abbrev pub NameSet : Type 0
@@ -73,9 +74,13 @@ abbrev mutual
   all_names end = no_names
   all_names (more e es) = union (names e) (all_names es)
 
+  pub guards_names : Guards → NameSet
+  guards_names no_guard = no_names
+  guards_names (or_guard es gs) = union (all_names es) (guards_names gs)
+
   pub clauses_names : Clauses → NameSet
   clauses_names no_clauses = no_names
-  clauses_names (clause p ps g body cs) = union (all_names ps) (union (all_names body) (clauses_names cs))
+  clauses_names (clause p ps g body cs) = union (all_names ps) (union (guards_names g) (union (all_names body) (clauses_names cs)))
 
 -- after a use the name counts as bound
 abbrev mutual
@@ -106,7 +111,7 @@ abbrev mutual
   body_ways end = stay
   body_ways (more e es) = before (ways e) (body_ways es)
 
-  -- what one of the clauses leads to; the names of its patterns are bound first
+  -- what one of the clauses leads to; the names of its patterns are bound first, and its guard leaves the sets as they are
   pub clauses_ways : Clauses → Way
   clauses_ways no_clauses = stay
   clauses_ways (clause p ps g body no_clauses) = before (bind (all_names ps)) (body_ways body)
@@ -124,13 +129,13 @@ on_all n sets = list_all (λ s. s n.index) sets
 
 module _ (all : Texts) where
   abbrev pub unbound : Place → Name → Fault
-  unbound p n = record { place = p; code = 451; words = text all n }
+  unbound p n = fault.unbound p (text all n)
 
   abbrev pub unsafe : Place → Name → Fault
-  unsafe p n = record { place = p; code = 452; words = text all n }
+  unsafe p n = fault.unsafe p (text all n)
 
   abbrev pub wildcard : Place → Fault
-  wildcard p = record { place = p; code = 451; words = codes "_" }
+  wildcard p = fault.unbound p (codes "_")
 
   -- a use is unbound where the name is bound on no way, and unsafe where it is bound on some and not on all
   abbrev pub use_faults : Place → Name → List NameSet → List Fault
@@ -162,9 +167,14 @@ module _ (all : Texts) where
     patterns_faults end sets = []
     patterns_faults (more e es) sets = pattern_faults e sets ++ patterns_faults es sets
 
+    pub pattern_guards_faults : Guards → List NameSet → List Fault
+    pattern_guards_faults no_guard sets = []
+    pattern_guards_faults (or_guard es gs) sets = patterns_faults es sets ++ pattern_guards_faults gs sets
+
     pub pattern_clauses_faults : Clauses → List NameSet → List Fault
     pattern_clauses_faults no_clauses sets = []
-    pattern_clauses_faults (clause p ps g body cs) sets = patterns_faults ps sets ++ (patterns_faults body sets ++ pattern_clauses_faults cs sets)
+    pattern_clauses_faults (clause p ps g body cs) sets =
+        patterns_faults ps sets ++ (pattern_guards_faults g sets ++ (patterns_faults body sets ++ pattern_clauses_faults cs sets))
 
   abbrev mutual
     pub faults : Tree → List NameSet → List Fault
@@ -192,10 +202,17 @@ module _ (all : Texts) where
     body_faults end sets = []
     body_faults (more e es) sets = faults e sets ++ body_faults es (flat_map (ways e) sets)
 
+    -- the tests of a guard go from left to right, and so do its alternatives
+    pub guards_faults : Guards → List NameSet → List Fault
+    guards_faults no_guard sets = []
+    guards_faults (or_guard es gs) sets = body_faults es sets ++ guards_faults gs (flat_map (body_ways es) sets)
+
+    -- the guard and the body of a clause start behind its patterns, and the body does not see what the guard uses
     pub clauses_faults : Clauses → List NameSet → List Fault
     clauses_faults no_clauses sets = []
     clauses_faults (clause p ps g body cs) sets =
-        patterns_faults ps sets ++ (body_faults body (flat_map (bind (all_names ps)) sets) ++ clauses_faults cs sets)
+        let inside = flat_map (bind (all_names ps)) sets in
+        patterns_faults ps sets ++ (guards_faults g inside ++ (body_faults body inside ++ clauses_faults cs sets))
 
   -- a function starts with no name bound
   abbrev pub function_faults : FunctionTree → List Fault

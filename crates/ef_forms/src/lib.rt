@@ -6,8 +6,6 @@ mod form;
 mod measure;
 mod record;
 mod tables;
-#[cfg(test)]
-mod tests;
 
 pub use expr::{Clause, Expr, Node};
 pub use form::{Form, Function, FunctionRef, Module, PlacedForm};

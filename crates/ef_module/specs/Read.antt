@@ -1,8 +1,8 @@
 -- What is answered for the tokens of a form and of a module.
 use Rattle.std.specs.Prelude.{ℕ, ◌≡◌, ◌≤◌, ◌⊎◌, Bool, true, false, ◌&&◌, if◌then◌else◌, List, [], ◌∷◌, Option, Some, None, Vec, map}
 use Rattle.std.specs.declared.alloc.Global.{Global}
-use Rattle.ef_base.specs.declared.fault.Fault.{Fault}
 use Rattle.ef_base.specs.declared.name.Name.{Name}
+use Rattle.ef_base.specs.NamedFaults.{not_built}
 use Rattle.ef_base.specs.Texts.{Texts, Extends}
 use Rattle.ef_token.specs.declared.token.Token.{Token}
 use Rattle.ef_forms.specs.declared.form.Form.{Form}
@@ -19,10 +19,6 @@ use Rattle.ef_module.specs.declared.forms.FormRefusal.{FormRefusal}
 use Rattle.ef_module.specs.declared.forms.FormRefusal.TheVariants.{Faulty, NoMemory}
 use Rattle.ef_module.specs.Attribute.{seen}
 use Rattle.ef_module.specs.Forms.{SpellsForm, SpellsForms, SpellsModule, IsNarrowForm, arity_of, most_nesting}
-
--- what is not built, at the start of the file
-abbrev pub not_built : Fault
-not_built = record { place = record { file = 0; line = 1; column = 1 }; code = 500; words = [] }
 
 -- ---- forms
 

@@ -8,7 +8,7 @@ ghost use Rattle.ef_module.specs.Read.{ReadsForm, IsFormRefused, IsReadForm, IsN
 use crate::ahead::{Ahead, seen};
 use crate::attribute::attribute;
 use crate::function::function;
-use ef_base::{Bytes, Fault, FaultList, Names, NoMemory, Place};
+use ef_base::{Fault, FaultList, Names, NoMemory};
 use ef_forms::Form;
 use ef_token::Token;
 use std::alloc::Global;
@@ -72,18 +72,8 @@ fn is_minus(ahead: Ahead) -> bool
 pub fn not_built(alloc: Global) -> FormRefusal
     ensures { IsNotBuilt result }
 {
-    let place = Place {
-        file: 0,
-        line: 1,
-        column: 1,
-    };
     let mut faults = FaultList::new(alloc);
-    let fault = Fault {
-        place,
-        code: 500,
-        words: Bytes::new(alloc),
-    };
-    match faults.push(fault) {
+    match faults.push(Fault::not_built(alloc)) {
         Ok(()) => FormRefusal::Faulty(faults),
         Err(NoMemory) => FormRefusal::NoMemory,
     }

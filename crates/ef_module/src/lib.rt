@@ -10,6 +10,3 @@ mod narrow;
 
 pub use forms::{FormRefusal, form};
 pub use modules::module;
-
-#[cfg(test)]
-mod tests;

@@ -4,6 +4,8 @@ use Rattle.ef_base.specs.declared.fault.Fault.{Fault}
 use Rattle.ef_base.specs.declared.fault.Refusal.{Refusal}
 use Rattle.ef_base.specs.declared.fault.Refusal.TheVariants.{Faulty, NoMemory}
 use Rattle.ef_base.specs.declared.name.Name.{Name}
+use Rattle.ef_base.specs.FaultTable as table
+use Rattle.ef_base.specs.NamedFaults.{plain}
 use Rattle.ef_base.specs.Texts.{Texts, Extends}
 use Rattle.ef_token.specs.declared.token.TokenKind.{TokenKind}
 use Rattle.ef_token.specs.declared.token.TokenKind.TheVariants as kind
@@ -15,9 +17,9 @@ use Rattle.ef_parse.specs.Grammar.{start_of, Spells, SpellsClauses}
 abbrev pub most_nesting : ℕ
 most_nesting = 128
 
--- the fault of this number, at the first token
+-- the fault of this code, at the first token
 abbrev pub fault_of : ℕ → List Token → Fault
-fault_of code ts = record { place = start_of ts; code = code; words = [] }
+fault_of code ts = plain (start_of ts) code
 
 -- they spell this tree, within the greatest nesting
 pub record ReadsExpression (now : Texts) (e : Tree) (ts : List Token) : Type 0 where
@@ -35,7 +37,7 @@ IsDeepExpression now ts = (e : Tree) × (k d : ℕ) × (most_nesting < d) × ((a
 -- no tree is spelled, or one that is nested deeper
 abbrev pub IsExpressionRefused : Texts → List Token → Refusal → Type 0
 IsExpressionRefused now ts (Faulty f) =
-    ((f ≡ fault_of 301 ts) × IsNoExpression now ts) ⊎ ((f ≡ fault_of 608 ts) × IsDeepExpression now ts)
+    ((f ≡ fault_of table.syntax_error ts) × IsNoExpression now ts) ⊎ ((f ≡ fault_of table.too_deep ts) × IsDeepExpression now ts)
 IsExpressionRefused now ts NoMemory = Unit {0}
 
 -- they spell these clauses of a function, within the greatest nesting
@@ -55,7 +57,7 @@ AreDeepClauses now ts =
 -- no clauses are spelled, or such as are nested deeper
 abbrev pub AreClausesRefused : Texts → List Token → Refusal → Type 0
 AreClausesRefused now ts (Faulty f) =
-    ((f ≡ fault_of 301 ts) × AreNoClauses now ts) ⊎ ((f ≡ fault_of 608 ts) × AreDeepClauses now ts)
+    ((f ≡ fault_of table.syntax_error ts) × AreNoClauses now ts) ⊎ ((f ≡ fault_of table.too_deep ts) × AreDeepClauses now ts)
 AreClausesRefused now ts NoMemory = Unit {0}
 
 abbrev pub name_of_kind : TokenKind → Option Name

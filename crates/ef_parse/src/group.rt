@@ -86,7 +86,10 @@ pub fn put_branch(
             exprs.push(expr)?;
             put_clause(alloc, before, start, Parts::Built { exprs, nesting }, body)
         }
-        Part::Deep => Ok(Group::Deep),
+        Part::Deep => {
+            drop((before, body));
+            Ok(Group::Deep)
+        }
     }
 }
 

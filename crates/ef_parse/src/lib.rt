@@ -10,6 +10,3 @@ mod step;
 
 pub use ahead::{first_name, start_of};
 pub use parse::{clauses, expression};
-
-#[cfg(test)]
-mod tests;

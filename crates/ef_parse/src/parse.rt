@@ -17,14 +17,11 @@ use crate::frame::{Advance, Mode, Outcome};
 use crate::group::{Group, no_group};
 use crate::part::Part;
 use crate::step::step;
-use ef_base::{Bytes, Fault, Names, NoMemory, Refusal};
+use ef_base::codes::{SYNTAX_ERROR, TOO_DEEP};
+use ef_base::{Fault, Names, NoMemory, Refusal};
 use ef_forms::{Clause, Expr};
 use ef_token::Token;
 use std::alloc::Global;
-
-const SYNTAX_ERROR: u16 = 301;
-
-const TOO_DEEP: u16 = 608;
 
 /// The one expression that all the tokens spell, with nesting at most 128.
 pub fn expression(alloc: Global, names: &Names, tokens: &[Token]) -> Result<Expr, Refusal>
@@ -70,11 +67,7 @@ pub fn clauses(alloc: Global, names: &Names, tokens: &[Token]) -> Result<Vec<Cla
 fn fault(alloc: Global, code: u16, tokens: &[Token]) -> Refusal
     ensures { result ≡ Faulty (fault_of code tokens.now) }
 {
-    Refusal::Faulty(Fault {
-        place: start_of(tokens),
-        code,
-        words: Bytes::new(alloc),
-    })
+    Refusal::Faulty(Fault::plain(alloc, start_of(tokens), code))
 }
 
 /// What the run comes to that begins in this mode.

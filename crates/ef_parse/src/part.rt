@@ -4,6 +4,7 @@ ghost use Rattle.ef_forms.specs.Plain.{plain};
 ghost use Rattle.ef_forms.specs.Tree as t;
 ghost use Rattle.ef_parse.specs.Machine as m;
 ghost use Rattle.ef_parse.specs.Shown.{part, parts};
+ghost use Rattle.ef_parse.specs.declared.part.Part.TheVariants as part_is;
 
 use ef_base::{NoMemory, Place};
 use ef_forms::{Expr, Node};
@@ -45,6 +46,15 @@ pub fn part_of(start: Place, expr: Expr, nesting: u8) -> Part
     }
 }
 
+/// A part that is nested too deep. Its own parts go to `drop` as one value: dropped in place, each of their variants
+/// would be a step of its own in the proof.
+pub fn deep<T: Drop>(parts: T) -> Part
+    ensures { result ≡ part_is.Deep }
+{
+    drop(parts);
+    Part::Deep
+}
+
 /// A part of one token.
 #[tactic(auto, using(crate::proofs::Plain::laws))]
 pub fn leaf(start: Place, node: Node) -> Part
@@ -59,7 +69,7 @@ pub fn parenthesised(start: Place, inner: Part) -> Part
 {
     match inner {
         Part::Built { expr, nesting, .. } if nesting < LIMIT => part_of(start, expr, nesting + 1),
-        _ => Part::Deep,
+        other => deep(other),
     }
 }
 
@@ -85,7 +95,7 @@ pub fn list(start: Place, items: Parts) -> Part
             };
             part_of(start, Expr { place: start, node }, nesting + 1)
         }
-        _ => Part::Deep,
+        other => deep(other),
     }
 }
 
@@ -123,7 +133,7 @@ pub fn tuple(start: Place, items: Parts) -> Part
             let node = Node::Tuple(exprs);
             part_of(start, Expr { place: start, node }, nesting + 1)
         }
-        _ => Part::Deep,
+        other => deep(other),
     }
 }
 
@@ -132,19 +142,20 @@ pub fn tuple(start: Place, items: Parts) -> Part
 pub fn matched(alloc: Global, left: Part, right: Part) -> Result<Part, NoMemory>
     ensures { IfOk result (λ q. part q ≡ m.matched 128 (part left) (part right)) }
 {
-    match (left, right) {
-        (
-            Part::Built {
-                start,
-                expr,
-                nesting,
-            },
-            Part::Built {
-                expr: value,
-                nesting: own,
-                ..
-            },
-        ) if nesting < LIMIT && own < LIMIT => {
+    let Part::Built {
+        start,
+        expr,
+        nesting,
+    } = left
+    else {
+        return Ok(deep(right));
+    };
+    match right {
+        Part::Built {
+            expr: value,
+            nesting: own,
+            ..
+        } if nesting < LIMIT && own < LIMIT => {
             let node = Node::Match {
                 left: Box::new(alloc, expr)?,
                 right: Box::new(alloc, value)?,
@@ -152,7 +163,7 @@ pub fn matched(alloc: Global, left: Part, right: Part) -> Result<Part, NoMemory>
             let whole = Expr { place: start, node };
             Ok(part_of(start, whole, nesting.max(own) + 1))
         }
-        _ => Ok(Part::Deep),
+        other => Ok(deep((expr, other))),
     }
 }
 
@@ -221,23 +232,27 @@ pub fn called(alloc: Global, target: Part, args: Parts) -> Result<Part, NoMemory
 pub fn called_in(alloc: Global, home: Part, function: Part, args: Parts) -> Result<Part, NoMemory>
     ensures { IfOk result (λ q. part q ≡ m.called_in 128 (part home) (part function) (parts args)) }
 {
-    match (home, function, args) {
-        (
-            Part::Built {
-                start,
-                expr,
-                nesting,
-            },
-            Part::Built {
-                expr: name,
-                nesting: own,
-                ..
-            },
-            Parts::Built {
-                exprs,
-                nesting: most,
-            },
-        ) if nesting < LIMIT && own < LIMIT && most < LIMIT => {
+    let Part::Built {
+        start,
+        expr,
+        nesting,
+    } = home
+    else {
+        return Ok(deep((function, args)));
+    };
+    let Part::Built {
+        expr: name,
+        nesting: own,
+        ..
+    } = function
+    else {
+        return Ok(deep((expr, args)));
+    };
+    match args {
+        Parts::Built {
+            exprs,
+            nesting: most,
+        } if nesting < LIMIT && own < LIMIT && most < LIMIT => {
             let node = Node::Remote {
                 module: Box::new(alloc, expr)?,
                 function: Box::new(alloc, name)?,
@@ -246,6 +261,6 @@ pub fn called_in(alloc: Global, home: Part, function: Part, args: Parts) -> Resu
             let whole = Expr { place: start, node };
             Ok(part_of(start, whole, nesting.max(own.max(most)) + 1))
         }
-        _ => Ok(Part::Deep),
+        other => Ok(deep(((expr, name), other))),
     }
 }

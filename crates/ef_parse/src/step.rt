@@ -6,6 +6,8 @@ ghost use Rattle.ef_parse.specs.Shown.{done, frame, frames, group, mode, opener,
 ghost use Rattle.ef_parse.specs.declared.frame.Frame.{Frame as Kept};
 ghost use Rattle.ef_parse.specs.declared.ahead.Ahead.TheVariants as ahead_is;
 ghost use Rattle.ef_parse.specs.declared.ahead.Bracket.TheVariants as bracket_is;
+ghost use Rattle.ef_parse.specs.declared.frame.Advance.TheVariants as advance_is;
+ghost use Rattle.ef_parse.specs.declared.frame.Outcome.TheVariants as outcome_is;
 
 use crate::ahead::{Ahead, Bracket};
 use crate::frame::{Advance, Frame, Mode, Opener, Outcome};
@@ -23,6 +25,15 @@ const MATCH_LEVEL: u8 = 1;
 const CALL_LEVEL: u8 = 9;
 
 const MAX_LEVEL: u8 = 11;
+
+// The tokens spell nothing. What was read goes to `drop` as one value, here and where an arm has no use for it: dropped
+// in place, each variant of each part would be a step of its own in the proof.
+fn refused<T: Drop>(read: T) -> Advance
+    ensures { result ≡ advance_is.Done outcome_is.Refused }
+{
+    drop(read);
+    Advance::Done(Outcome::Refused)
+}
 
 /// The parenthesis ends the list.
 #[tactic(auto, using(crate::proofs::Stack::laws))]
@@ -48,7 +59,7 @@ fn parens_ended(
             stack.push(Frame::InList(body, no_parts(alloc)))?;
             Ok(Advance::Take(Mode::NeedArrow))
         }
-        _other => Ok(Advance::Done(Outcome::Refused)),
+        other => Ok(refused((other, items))),
     }
 }
 
@@ -58,7 +69,7 @@ fn list_ended(of: Opener, items: Parts) -> Advance
 {
     match of {
         Opener::List(start) => Advance::Take(Mode::Have(list(start, items), MAX_LEVEL)),
-        _other => Advance::Done(Outcome::Refused),
+        other => refused((other, items)),
     }
 }
 
@@ -68,7 +79,7 @@ fn tuple_ended(of: Opener, items: Parts) -> Advance
 {
     match of {
         Opener::Tuple(start) => Advance::Take(Mode::Have(tuple(start, items), MAX_LEVEL)),
-        _other => Advance::Done(Outcome::Refused),
+        other => refused((other, items)),
     }
 }
 
@@ -99,10 +110,10 @@ fn ended_empty(alloc: Global, stack: &mut Vec<Frame>, bracket: Bracket) -> Resul
             if is_none(&items) {
                 ended(alloc, stack, bracket, of, items)
             } else {
-                Ok(Advance::Done(Outcome::Refused))
+                Ok(refused((of, items)))
             }
         }
-        Some(_other) => Ok(Advance::Done(Outcome::Refused)),
+        Some(other) => Ok(refused(other)),
         None => Ok(Advance::Done(Outcome::Refused)),
     }
 }
@@ -117,7 +128,7 @@ fn barred(stack: &mut Vec<Frame>, of: Opener, items: Parts) -> Result<Advance, N
             stack.push(Frame::InTail(start, items))?;
             Ok(Advance::Take(Mode::Need))
         }
-        _other => Ok(Advance::Done(Outcome::Refused)),
+        other => Ok(refused((other, items))),
     }
 }
 
@@ -141,7 +152,7 @@ fn followed(
             stack.push(Frame::InPattern(start, arg, branches))?;
             Ok(Advance::Take(Mode::Need))
         }
-        _other => Ok(Advance::Done(Outcome::Refused)),
+        other => Ok(refused((other, items))),
     }
 }
 
@@ -155,7 +166,7 @@ fn concluded(alloc: Global, of: Opener, items: Parts) -> Result<Advance, NoMemor
             let whole = chosen(alloc, start, arg, branches)?;
             Ok(Advance::Take(Mode::Have(whole, MAX_LEVEL)))
         }
-        _other => Ok(Advance::Done(Outcome::Refused)),
+        other => Ok(refused((other, items))),
     }
 }
 
@@ -168,7 +179,7 @@ fn finished(alloc: Global, of: Opener, items: Parts) -> Result<Advance, NoMemory
             let clauses = put_clause(alloc, before, start, patterns, items)?;
             Ok(Advance::Done(Outcome::Function(clauses)))
         }
-        _other => Ok(Advance::Done(Outcome::Refused)),
+        other => Ok(refused((other, items))),
     }
 }
 
@@ -193,7 +204,7 @@ fn listed(
         Ahead::Semicolon => followed(alloc, stack, of, items),
         Ahead::End => concluded(alloc, of, items),
         Ahead::Nothing => finished(alloc, of, items),
-        _ => Ok(Advance::Done(Outcome::Refused)),
+        _ => Ok(refused((of, items))),
     }
 }
 
@@ -206,7 +217,7 @@ fn unwrapped(start: Place, read: Part, ahead: Ahead) -> Advance
             parenthesised(start, read),
             MAX_LEVEL,
         )),
-        _ => Advance::Done(Outcome::Refused),
+        _ => refused(read),
     }
 }
 
@@ -225,7 +236,7 @@ fn tail_read(
             tailed(alloc, start, items, read)?,
             MAX_LEVEL,
         ))),
-        _ => Ok(Advance::Done(Outcome::Refused)),
+        _ => Ok(refused((items, read))),
     }
 }
 
@@ -245,7 +256,7 @@ fn argued(
             stack.push(Frame::InPattern(start, read, no_group(alloc)))?;
             Ok(Advance::Take(Mode::Need))
         }
-        _ => Ok(Advance::Done(Outcome::Refused)),
+        _ => Ok(refused(read)),
     }
 }
 
@@ -268,7 +279,7 @@ fn pattern_read(
             stack.push(Frame::InList(body, no_parts(alloc)))?;
             Ok(Advance::Take(Mode::Need))
         }
-        _ => Ok(Advance::Done(Outcome::Refused)),
+        _ => Ok(refused((arg, before, read))),
     }
 }
 
@@ -285,15 +296,21 @@ fn close(
     match stack.pop() {
         None => match ahead {
             Ahead::Nothing => Ok(Advance::Done(Outcome::Expression(read))),
-            _ => Ok(Advance::Done(Outcome::Refused)),
+            _ => Ok(refused(read)),
         },
         Some(Frame::InParens(start)) => Ok(unwrapped(start, read, ahead)),
-        Some(Frame::AfterColon(_)) => Ok(Advance::Done(Outcome::Refused)),
+        Some(Frame::AfterColon(left)) => Ok(refused((left, read))),
         Some(Frame::AfterMatch(left)) => Ok(Advance::Keep(Mode::Have(
             matched(alloc, left, read)?,
             MATCH_LEVEL,
         ))),
-        Some(Frame::InList(of, items)) => listed(alloc, stack, of, put_in(items, read)?, ahead),
+        Some(Frame::InList(of, items)) => match put_in(items, read) {
+            Ok(items) => listed(alloc, stack, of, items, ahead),
+            Err(NoMemory) => {
+                drop(of);
+                Err(NoMemory)
+            }
+        },
         Some(Frame::InTail(start, items)) => tail_read(alloc, start, items, read, ahead),
         Some(Frame::InCase(start)) => argued(alloc, stack, start, read, ahead),
         Some(Frame::InPattern(start, arg, before)) => {
@@ -325,7 +342,7 @@ fn pushed(stack: &mut Vec<Frame>, made: Frame) -> Result<Advance, NoMemory>
     ensures { IfOk result (λ a. done a stack.new.items ≡ m.pushed 128 (frame made) (frames stack.old.items)) }
 {
     if let Some(Frame::AfterColon(_)) = stack.last() {
-        return Ok(Advance::Done(Outcome::Refused));
+        return Ok(refused(made));
     }
     stack.push(made)?;
     Ok(Advance::Take(Mode::Need))
@@ -346,9 +363,7 @@ fn go_on(
         Ahead::Open(Bracket::Round) if level >= MAX_LEVEL => opened(alloc, stack, read),
         Ahead::Colon if level >= MAX_LEVEL => pushed(stack, Frame::AfterColon(read)),
         Ahead::Match if level > MATCH_LEVEL => pushed(stack, Frame::AfterMatch(read)),
-        Ahead::Open(Bracket::Round) | Ahead::Colon | Ahead::Match => {
-            Ok(Advance::Done(Outcome::Refused))
-        }
+        Ahead::Open(Bracket::Round) | Ahead::Colon | Ahead::Match => Ok(refused(read)),
         _ => close(alloc, stack, read, ahead),
     }
 }
@@ -422,7 +437,7 @@ fn named(
             stack.push(Frame::InList(head, no_parts(alloc)))?;
             Ok(Advance::Take(Mode::NeedHead))
         }
-        _ => Ok(Advance::Done(Outcome::Refused)),
+        _ => Ok(refused(before)),
     }
 }
 

@@ -13,7 +13,7 @@ use Rattle.ef_forms.specs.OfTable.{ClausesOf}
 use Rattle.ef_forms.specs.Plain.{plain_all, plain_clauses, plain_guard}
 use Rattle.ef_forms.specs.Sure.{all_sure, clauses_sure}
 use Rattle.ef_forms.specs.Tree.{Trees, Guards, Clauses, no_clauses, clause}
-use Rattle.ef_forms.specs.Ways.{NameSet, no_names, bind, all_names, body_ways, clauses_ways, patterns_faults, body_faults, clauses_faults}
+use Rattle.ef_forms.specs.Ways.{NameSet, no_names, stay, bind, all_names, body_ways, clauses_ways, patterns_faults, guards_faults, body_faults, clauses_faults}
 use Rattle.ef_forms.proofs.Bools.{and_true}
 use Rattle.ef_forms.proofs.Grows.{all_may, clauses_may, grows_clauses}
 use Rattle.ef_scope.specs.declared.marks.Mark.TheVariants.{Unbound, Unsafe, Safe}
@@ -24,24 +24,29 @@ use Rattle.ef_scope.specs.Trail.{Gathers, GoesBack, Keeps, Puts, Since, changed,
 use Rattle.ef_scope.specs.Walks.{Shows, Adds, Walks}
 use Rattle.ef_scope.proofs.Adds.{adds_none, adds_then}
 use Rattle.ef_scope.proofs.Beside.{Within, none_within, noted_all, noted_some, noted_within}
+use Rattle.ef_scope.proofs.Guards.{stay_then}
 use Rattle.ef_scope.proofs.Lists.{next}
 use Rattle.ef_scope.proofs.Parts.{Same, back_to, bound, safe, shows_grown, shows_same, since_same, walked_all, walked_some, walks_stay, walks_then}
 use Rattle.ef_scope.proofs.Joins.{choice_all, choice_some, first_all, first_some, joined_all, put_some, within_choice}
 
 -- ---- one clause
 
-pub walks_clause : (texts : Texts) (c : Clause) (ps body : List Expr) (a b d : State) (x y z : List Fault) → ps ≡ (out-Clause c).patterns.items → body ≡ (out-Clause c).body.items
-    → Walks (bind (all_names (plain_all ps))) (patterns_faults texts (plain_all ps)) a b x y → Walks (body_ways (plain_all body)) (body_faults texts (plain_all body)) b d y z
+pub walks_clause : (texts : Texts) (c : Clause) (ps body : List Expr) (a b b' d : State) (x y y' z : List Fault) → ps ≡ (out-Clause c).patterns.items → body ≡ (out-Clause c).body.items
+    → Walks (bind (all_names (plain_all ps))) (patterns_faults texts (plain_all ps)) a b x y → Walks stay (guards_faults texts (plain_guard (out-Clause c).guard.items)) b b' y y'
+    → Walks (body_ways (plain_all body)) (body_faults texts (plain_all body)) b' d y' z
     → Walks (clauses_ways (plain_clauses (c ∷ []))) (clauses_faults texts (plain_clauses (c ∷ []))) a d x z
-walks_clause texts c ps body a b d x y z at at' p q =
+walks_clause texts c ps body a b b' d x y y' z at at' p r q =
     let patterns = plain_all (out-Clause c).patterns.items in
+    let guard = plain_guard (out-Clause c).guard.items in
     let exprs = plain_all (out-Clause c).body.items in
     let p' : Walks (bind (all_names patterns)) (patterns_faults texts patterns) a b x y = subst (λ l. Walks (bind (all_names (plain_all l))) (patterns_faults texts (plain_all l)) a b x y) at p in
-    let q' : Walks (body_ways exprs) (body_faults texts exprs) b d y z = subst (λ l. Walks (body_ways (plain_all l)) (body_faults texts (plain_all l)) b d y z) at' q in
-    let both = walks_then _ _ _ _ a b d x y z p' q' in
+    let q' : Walks (body_ways exprs) (body_faults texts exprs) b' d y' z = subst (λ l. Walks (body_ways (plain_all l)) (body_faults texts (plain_all l)) b' d y' z) at' q in
+    let both = walks_then _ _ _ _ a b d x y z p' (stay_then (guards_faults texts guard) (body_ways exprs) (body_faults texts exprs) b b' d y y' z r q') in
     record {
       ways = both.ways;
-      faults = λ sets shows. subst (λ l. Adds (patterns_faults texts patterns sets ++ l) x z) (sym (append-nil (body_faults texts exprs (flat_map (bind (all_names patterns)) sets)))) (both.faults sets shows);
+      faults = λ sets shows.
+          let inside = flat_map (bind (all_names patterns)) sets in
+          subst (λ l. Adds (patterns_faults texts patterns sets ++ (guards_faults texts guard inside ++ l)) x z) (sym (append-nil (body_faults texts exprs inside))) (both.faults sets shows);
       since = both.since;
     }
 
@@ -85,10 +90,13 @@ clause_then : (texts : Texts) (c : Clause) (cs : List Clause) (sets : List NameS
     → Adds (clauses_faults texts (plain_clauses (c ∷ cs)) sets) x z
 clause_then texts c cs sets x y z one more =
     let patterns = patterns_faults texts (plain_all (out-Clause c).patterns.items) sets in
-    let body = body_faults texts (plain_all (out-Clause c).body.items) (flat_map (bind (all_names (plain_all (out-Clause c).patterns.items))) sets) in
+    let inside = flat_map (bind (all_names (plain_all (out-Clause c).patterns.items))) sets in
+    let guard = guards_faults texts (plain_guard (out-Clause c).guard.items) inside in
+    let body = body_faults texts (plain_all (out-Clause c).body.items) inside in
     let rest = clauses_faults texts (plain_clauses cs) sets in
-    let same : (patterns ++ (body ++ [])) ++ rest ≡ patterns ++ (body ++ rest) = ap (λ l. (patterns ++ l) ++ rest) (append-nil body) ∙ append_assoc patterns body rest in
-    subst (λ l. Adds l x z) same (adds_then x y z (patterns ++ (body ++ [])) rest one more)
+    let same : (patterns ++ (guard ++ (body ++ []))) ++ rest ≡ patterns ++ (guard ++ (body ++ rest)) =
+    ap (λ l. (patterns ++ (guard ++ l)) ++ rest) (append-nil body) ∙ append_assoc patterns (guard ++ body) rest ∙ ap (λ l. patterns ++ l) (append_assoc guard body rest) in
+    subst (λ l. Adds l x z) same (adds_then x y z (patterns ++ (guard ++ (body ++ []))) rest one more)
 
 module _ (texts : Texts) (cs : List Clause) (first : Clause) (rest : List Clause) (origin s s' : State) (start : ℕ) (aside aside' : Aside) (old found : List Fault) where
   pub choices_first : cs ≡ first ∷ rest → ClausesOf texts (plain_clauses cs) → start ≡ length origin.trail.items → aside.some.items ≡ [] → aside.all.items ≡ []

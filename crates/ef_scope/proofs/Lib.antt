@@ -1,6 +1,7 @@
 pub mod Adds
 pub mod MarkLaws
 pub mod TrailLaws
+pub mod Guards
 pub mod Joins
 pub mod Lists
 pub mod Parts

@@ -16,6 +16,10 @@ tree_is e k sh is shape = plain_expr e ∙ ap (tree e.place) (ap plain_node is �
 pub next : {A : Type 0} (xs : List A) (i : ℕ) (x : A) → i < length xs → x ≡ get_or xs i x → drop i xs ≡ x ∷ drop (i + 1) xs
 next xs i x small read = rw add-one (drop-cons xs i x small ∙ ap (λ z. z ∷ drop (suc i) xs) (sym read))
 
+-- the same of a list that is read under another name
+pub next_of : {A : Type 0} (xs read_xs : List A) (i : ℕ) (x : A) → read_xs ≡ xs → i < length read_xs → x ≡ get_or read_xs i x → drop i xs ≡ x ∷ drop (i + 1) xs
+next_of xs read_xs i x same small read = subst (λ l. drop i l ≡ x ∷ drop (i + 1) l) same (next read_xs i x small read)
+
 -- ---- the names of one of them, and of the rest
 
 module _ (texts : Texts) (es : List Expr) (i : ℕ) (e : Expr) (small : i < length es) (read : e ≡ get_or es i e) (names : TreesOf texts (plain_all (drop i es))) where

@@ -2,7 +2,6 @@
 use Rattle.std.specs.Prelude.{◌≡◌, ℕ, Bool, true, List, ◌++◌}
 use Rattle.std.specs.List.{flat_map, list_any, list_all}
 use Rattle.ef_base.specs.declared.fault.Fault.{Fault}
-use Rattle.ef_base.specs.declared.fault.Place.{Place}
 use Rattle.ef_base.specs.Faults.{set_of}
 use Rattle.ef_forms.specs.Ways.{NameSet, Way}
 use Rattle.ef_scope.specs.declared.marks.Mark.TheVariants.{Unsafe, Safe}
@@ -37,6 +36,3 @@ pub record Walks (way : Way) (added : List NameSet → List Fault) (old new : St
   pub ways : (sets : List NameSet) → Shows sets old → Shows (flat_map way sets) new
   pub faults : (sets : List NameSet) → Shows sets old → Adds (added sets) found found'
   pub since : Since old new
-
-abbrev pub fault_at : Place → ℕ → List ℕ → Fault
-fault_at p code words = record { place = p; code = code; words = words }

@@ -2,12 +2,13 @@
 ghost use Rattle.std.specs.Prelude.{◌≡◌, ◌∷◌, [], List, IfOk, OnOk};
 ghost use Rattle.ef_base.specs.Faults.{set_of};
 ghost use Rattle.ef_base.specs.Texts.{Extends, HasName, Texts};
-ghost use Rattle.ef_forms.specs.OfTable.{ClausesOf, FunctionOf, TreeOf, TreesOf};
-ghost use Rattle.ef_forms.specs.Plain.{plain, plain_all, plain_clauses, plain_function};
-ghost use Rattle.ef_forms.specs.Ways.{all_faults, bind, body_faults, body_ways, clauses_faults, clauses_ways, faults, function_faults, one_name, side_by_side, use_faults, ways};
+ghost use Rattle.ef_forms.specs.declared.expr.Clause.{out-Clause};
+ghost use Rattle.ef_forms.specs.OfTable.{ClausesOf, FunctionOf, GuardsOf, TreeOf, TreesOf};
+ghost use Rattle.ef_forms.specs.Plain.{plain, plain_all, plain_clauses, plain_function, plain_guard};
+ghost use Rattle.ef_forms.specs.Ways.{all_faults, bind, body_faults, body_ways, clauses_faults, clauses_ways, faults, function_faults, guards_faults, one_name, side_by_side, stay, use_faults, ways};
 ghost use Rattle.ef_scope.specs.Walks.{Walks};
 
-use crate::fault::{UNBOUND, add_fault, check_use};
+use crate::fault::{add_unbound, check_use};
 use crate::marks::Mark;
 use crate::pattern::{match_pattern, match_patterns};
 use crate::state::{Aside, State};
@@ -71,7 +72,27 @@ fn check_clause(
     ensures { OnOk result (Walks (clauses_ways (plain_clauses (clause.now ∷ []))) (clauses_faults names.now (plain_clauses (clause.now ∷ []))) state.old state.new found.old found.new) }
 {
     match_patterns(alloc, names, &clause.patterns, state, found)?;
+    check_guard(alloc, names, clause, state, found)?;
     check_body(alloc, names, &clause.body, state, found)
+}
+
+// The tests of a guard go from left to right. Nothing that they use is bound behind them.
+#[cycle(check)]
+fn check_guard(
+    alloc: Global,
+    names: &Names,
+    clause: &Clause,
+    state: &mut State,
+    found: &mut FaultList,
+) -> Result<(), NoMemory>
+    requires { GuardsOf names.now (plain_guard (out-Clause clause.now).guard.items) }
+    ensures { OnOk result (Walks stay (guards_faults names.now (plain_guard (out-Clause clause.now).guard.items)) state.old state.new found.old found.new) }
+{
+    let start = state.len();
+    for tests in &clause.guard {
+        check_body(alloc, names, tests, state, found)?;
+    }
+    state.take_back(start)
 }
 
 // A body goes from left to right: what an expression binds is bound in the next.
@@ -107,7 +128,7 @@ fn check(
         Node::Int(_) | Node::Atom(_) => Ok(()),
         Node::Var(name) => use_name(alloc, names, expr.place, *name, state, found),
         // It is never bound.
-        Node::Any => add_fault(alloc, expr.place, UNBOUND, "_", found),
+        Node::Any => add_unbound(alloc, expr.place, "_", found),
         Node::List { items, tail } => {
             let Some(tail) = tail else {
                 return check_all(alloc, names, items, state, found);

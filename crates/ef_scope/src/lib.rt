@@ -6,7 +6,5 @@ mod fault;
 mod marks;
 mod pattern;
 mod state;
-#[cfg(test)]
-mod tests;
 
 pub use check::scope_faults;

@@ -1,14 +1,15 @@
 // The variables of patterns.
 ghost use Rattle.std.specs.Prelude.{◌≡◌, ◌∷◌, [], ◌||◌, ℕ, OnOk, List};
 ghost use Rattle.ef_base.specs.Texts.{HasName};
-ghost use Rattle.ef_forms.specs.OfTable.{ClausesOf, TreeOf, TreesOf};
-ghost use Rattle.ef_forms.specs.Plain.{plain, plain_all, plain_clauses};
-ghost use Rattle.ef_forms.specs.Ways.{NameSet, all_names, bind, clauses_names, name_faults, pattern_clauses_faults, pattern_faults, patterns_faults};
+ghost use Rattle.ef_forms.specs.declared.expr.Clause.{out-Clause};
+ghost use Rattle.ef_forms.specs.OfTable.{ClausesOf, GuardsOf, TreeOf, TreesOf};
+ghost use Rattle.ef_forms.specs.Plain.{plain, plain_all, plain_clauses, plain_guard};
+ghost use Rattle.ef_forms.specs.Ways.{NameSet, all_names, bind, clauses_names, guards_names, name_faults, pattern_clauses_faults, pattern_faults, pattern_guards_faults, patterns_faults};
 ghost use Rattle.ef_forms.specs.Ways as ways;
 ghost use Rattle.ef_scope.specs.Trail.{has};
 ghost use Rattle.ef_scope.specs.Walks.{Adds, Shows, Walks};
 
-use crate::fault::{UNSAFE, add_fault};
+use crate::fault::add_unsafe;
 use crate::marks::Mark;
 use crate::state::State;
 use ef_base::{FaultList, Name, Names, NoMemory, Place};
@@ -136,7 +137,27 @@ fn check_clauses(
 {
     for clause in clauses {
         check_patterns(alloc, names, &clause.patterns, state, found, bound)?;
+        check_guard(alloc, names, clause, state, found, bound)?;
         check_patterns(alloc, names, &clause.body, state, found, bound)?;
+    }
+    Ok(())
+}
+
+#[cycle(pattern)]
+fn check_guard(
+    alloc: Global,
+    names: &Names,
+    clause: &Clause,
+    state: &State,
+    found: &mut FaultList,
+    bound: &mut Vec<usize>,
+) -> Result<(), NoMemory>
+    requires { GuardsOf names.now (plain_guard (out-Clause clause.now).guard.items) }
+    ensures faults { OnOk result ((sets : List NameSet) → Shows sets state.now → Adds (pattern_guards_faults names.now (plain_guard (out-Clause clause.now).guard.items) sets) found.old found.new) }
+    ensures names { OnOk result ((m : ℕ) → has bound.new.items m ≡ (has bound.old.items m || guards_names (plain_guard (out-Clause clause.now).guard.items) m)) }
+{
+    for tests in &clause.guard {
+        check_patterns(alloc, names, tests, state, found, bound)?;
     }
     Ok(())
 }
@@ -154,6 +175,6 @@ fn check_variable(
 {
     match state.marks.get(name.index) {
         Mark::Unbound | Mark::Safe => Ok(()),
-        Mark::Unsafe => add_fault(alloc, place, UNSAFE, names.text(name), found),
+        Mark::Unsafe => add_unsafe(alloc, place, names.text(name), found),
     }
 }

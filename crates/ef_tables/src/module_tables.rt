@@ -1,20 +1,21 @@
 // The tables of a module.
 ghost use Rattle.std.specs.Prelude.{◌≡◌, ◌++◌, [], map, IfOk, OnOk};
-ghost use Rattle.ef_forms.specs.Built.{defined_in, exports_in, exports_of};
+ghost use Rattle.ef_base.specs.Texts.{Extends, Texts};
+ghost use Rattle.ef_forms.specs.Built.{IsBuilt, defined_in, exports_in, exports_of};
 ghost use Rattle.ef_forms.specs.Plain.{plain_module, plain_placed};
 
 use ef_base::{FaultList, Names, NoMemory};
 use ef_forms::{Form, FunctionName, Module, PlacedForm, Tables};
 use std::alloc::Global;
 
-/// The functions and the exports of the module, in order. As far as modules are built, there are no imports, records
-/// or faults, and no text is looked at.
-pub fn tables(alloc: Global, _names: &Names, module: &Module) -> Result<Tables, NoMemory>
+/// The functions and the exports of the module, in order. As far as modules are built, there are no imports and no
+/// records, and no text is looked at.
+pub fn tables(alloc: Global, names: &Names, module: &Module) -> Result<Tables, NoMemory>
     ensures functions { IfOk result (λ t. t.functions.items ≡ defined_in (plain_module «module».now).forms) }
     ensures exports { IfOk result (λ t. t.exports.items ≡ exports_in (plain_module «module».now).forms) }
     ensures imports { IfOk result (λ t. t.imports.items ≡ []) }
     ensures records { IfOk result (λ t. t.records.items ≡ []) }
-    ensures faults { IfOk result (λ t. t.faults ≡ []) }
+    ensures faults { IfOk result (λ t. (all : Texts) → Extends names.now all → IsBuilt all (plain_module «module».now) → t.faults ≡ []) }
 {
     Ok(Tables {
         functions: functions(alloc, &module.forms)?,

@@ -1,6 +1,6 @@
 use Rattle.std.proofs.Common.{◌∙◌, ap, rules, sym, subst, length, ◌++◌}
 use Rattle.std.proofs.lemmas.Result.{on_ok_weaker}
-use Rattle.ef_forms.specs.declared.expr.Clause.{the_lemmas}
+use Rattle.ef_forms.specs.declared.expr.Clause.{out-Clause, the_lemmas}
 use Rattle.ef_forms.specs.declared.expr.Node.TheVariants as node
 use Rattle.ef_forms.specs.OfTable.{ClausesOf, TreeOf}
 use Rattle.ef_forms.specs.Plain.{plain, plain_all, plain_clauses}
@@ -11,6 +11,7 @@ use Rattle.ef_forms.proofs.Plain.{plain_any, plain_call, plain_case, plain_list_
 use Rattle.ef_scope.proofs.Beside.{beside_end, beside_more, walks_beside}
 use Rattle.ef_scope.proofs.Bodies.{body_end, body_more}
 use Rattle.ef_scope.proofs.Choices.{choices_end, choices_first, choices_more, first_and_rest, walks_clause, walks_no_clauses}
+use Rattle.ef_scope.proofs.Guards.{guard_end, guard_more}
 use Rattle.ef_scope.proofs.Lists.{tree_is}
 use Rattle.ef_scope.proofs.Nodes.{node_walks, literal_walks, of_all, of_clauses, of_one, of_pattern}
 use Rattle.ef_scope.proofs.Parts.{back_to, walks_stay, walks_then}
@@ -25,8 +26,8 @@ pub check-returns-in-Int-2 : goal.check-returns-in-Int-2
 check-returns-in-Int-2 t c = literal_walks c.args.names.now c.args.expr.now c.args.state.now c.args.found.now c.in-Int.is
 
 pub check-returns-in-Any : goal.check-returns-in-Any
-check-returns-in-Any t c = on_ok_weaker c.add_fault.result (λ adds.
-    node_walks c.args.names.now _ _ _ _ c.args.expr.now _ _ c.in-Any.is plain_any (walks_stay _ c.args.state.now c.args.found.now c.add_fault.new.found (λ sets shows. adds))) c.add_fault.ensures
+check-returns-in-Any t c = on_ok_weaker c.add_unbound.result (λ adds.
+    node_walks c.args.names.now _ _ _ _ c.args.expr.now _ _ c.in-Any.is plain_any (walks_stay _ c.args.state.now c.args.found.now c.add_unbound.new.found (λ sets shows. adds))) c.add_unbound.ensures
 
 pub check-returns-in_ok-check-in-Match : goal.check-returns-in_ok-check-in-Match
 check-returns-in_ok-check-in-Match t c =
@@ -135,8 +136,20 @@ check_body-returns t c =
 
 pub check_clause-returns : goal.check_clause-returns
 check_clause-returns t c = on_ok_weaker c.check_body.result (λ walks.
-    walks_clause c.args.names.now c.args.clause.now c.deref.result.now c.deref-2.result.now c.args.state.now c.match_patterns.new.state c.check_body.new.state c.args.found.now c.match_patterns.new.found c.check_body.new.found
-    c.deref.ensures.value c.deref-2.ensures.value c.in_ok-match_patterns.ensures walks) c.check_body.ensures
+    walks_clause c.args.names.now c.args.clause.now c.deref.result.now c.deref-2.result.now c.args.state.now c.match_patterns.new.state c.check_guard.new.state c.check_body.new.state
+    c.args.found.now c.match_patterns.new.found c.check_guard.new.found c.check_body.new.found
+    c.deref.ensures.value c.deref-2.ensures.value c.in_ok-match_patterns.ensures c.in_ok-check_guard.ensures walks) c.check_body.ensures
+
+pub check_guard-loop-tests-preserved : goal.check_guard-loop-tests-preserved
+check_guard-loop-tests-preserved t c =
+    guard_more c.args.names.now (out-Clause c.args.clause.now).guard.items c.deref-tests-items.result.now c.loop-tests.tests-index c.tests-item.result c.deref.result.now c.args.state.now c.loop-tests.state c.check_body.new.state
+    c.args.found.now c.loop-tests.found c.check_body.new.found
+    c.deref-tests-items.ensures.value c.loop-tests-test.true c.tests-item.is c.deref.ensures.value c.loop-tests.invariant c.in_ok-check_body.ensures
+
+pub check_guard-returns : goal.check_guard-returns
+check_guard-returns t c = on_ok_weaker c.take_back.result (λ back.
+    guard_end c.args.names.now (out-Clause c.args.clause.now).guard.items c.deref-tests-items.result.now c.loop-tests.tests-index c.args.state.now c.loop-tests.state c.take_back.new.self c.len-start.result c.args.found.now c.loop-tests.found
+    c.deref-tests-items.ensures.value c.loop-tests-test.false c.len-start.ensures c.loop-tests.invariant back) c.take_back.ensures
 
 pub check_clauses-returns-in_default : goal.check_clauses-returns-in_default
 check_clauses-returns-in_default t c = walks_no_clauses c.args.names.now c.args.clauses.now c.args.state.now c.args.found.now c.in_default.len_below

@@ -1,7 +1,7 @@
 use Rattle.std.proofs.Common.{◌∙◌, ap, rules, sym, subst}
 use Rattle.std.specs.Prelude.{◌||◌}
 use Rattle.std.proofs.lemmas.Result.{on_ok_weaker}
-use Rattle.ef_forms.specs.declared.expr.Clause.{the_lemmas}
+use Rattle.ef_forms.specs.declared.expr.Clause.{out-Clause, the_lemmas}
 use Rattle.ef_forms.specs.declared.expr.Node.TheVariants as node
 use Rattle.ef_forms.specs.OfTable.{ClausesOf, TreeOf}
 use Rattle.ef_forms.specs.Plain.{plain, plain_clauses}
@@ -11,7 +11,7 @@ use Rattle.ef_forms.proofs.Plain.{plain_call, plain_case, plain_list_to, plain_m
 use Rattle.ef_scope.specs.Trail.{has}
 use Rattle.ef_scope.proofs.Adds.{adds_then}
 use Rattle.ef_scope.proofs.Lists.{tree_is}
-use Rattle.ef_scope.proofs.Patterns.{all_adds, clauses_add, clauses_faults_end, clauses_more, has_pushed, one_adds, pattern_adds, pattern_names, patterns_faults_end, patterns_more}
+use Rattle.ef_scope.proofs.Patterns.{all_adds, clauses_add, clauses_faults_end, clauses_more, has_pushed, one_adds, pattern_adds, pattern_names, patterns_faults_end, patterns_more, tests_faults_end, tests_more}
 use Rattle.ef_scope.proofs.pattern.+pattern.Goals as goal
 
 -- ---- lists
@@ -28,13 +28,26 @@ check_patterns-returns-clause-faults t c =
 pub check_clauses-loop-clause-preserved : goal.check_clauses-loop-clause-preserved
 check_clauses-loop-clause-preserved t c =
     clauses_more c.args.names.now c.args.clauses.now c.loop-clause.clause-index c.clause-item.result c.deref.result.now c.deref-in-loop-clause.result.now c.args.state.now
-    c.args.found.now c.loop-clause.found c.check_patterns.new.found c.check_patterns-in-loop-clause.new.found c.args.bound.now.items c.loop-clause.bound.items c.check_patterns.new.bound.items c.check_patterns-in-loop-clause.new.bound.items
+    c.args.found.now c.loop-clause.found c.check_patterns.new.found c.check_guard.new.found c.check_patterns-in-loop-clause.new.found
+    c.args.bound.now.items c.loop-clause.bound.items c.check_patterns.new.bound.items c.check_guard.new.bound.items c.check_patterns-in-loop-clause.new.bound.items
     c.loop-clause-test.true c.clause-item.is c.deref.ensures.value c.deref-in-loop-clause.ensures.value c.loop-clause.invariant
-    c.in_ok-check_patterns.ensures.faults c.in_ok-check_patterns.ensures.names c.in_ok-check_patterns-2.ensures.faults c.in_ok-check_patterns-2.ensures.names
+    c.in_ok-check_patterns.ensures.faults c.in_ok-check_patterns.ensures.names c.in_ok-check_guard.ensures.faults c.in_ok-check_guard.ensures.names
+    c.in_ok-check_patterns-2.ensures.faults c.in_ok-check_patterns-2.ensures.names
 
 pub check_clauses-returns-clause-faults : goal.check_clauses-returns-clause-faults
 check_clauses-returns-clause-faults t c =
     clauses_faults_end c.args.names.now c.args.clauses.now c.loop-clause.clause-index c.args.state.now c.args.found.now c.loop-clause.found c.args.bound.now.items c.loop-clause.bound.items c.loop-clause-test.false c.loop-clause.invariant
+
+pub check_guard-loop-tests-preserved : goal.check_guard-loop-tests-preserved
+check_guard-loop-tests-preserved t c =
+    tests_more c.args.names.now (out-Clause c.args.clause.now).guard.items c.deref-tests-items.result.now c.loop-tests.tests-index c.tests-item.result c.deref.result.now c.args.state.now
+    c.args.found.now c.loop-tests.found c.check_patterns.new.found c.args.bound.now.items c.loop-tests.bound.items c.check_patterns.new.bound.items
+    c.deref-tests-items.ensures.value c.loop-tests-test.true c.tests-item.is c.deref.ensures.value c.loop-tests.invariant c.in_ok-check_patterns.ensures.faults c.in_ok-check_patterns.ensures.names
+
+pub check_guard-returns-clause-faults : goal.check_guard-returns-clause-faults
+check_guard-returns-clause-faults t c =
+    tests_faults_end c.args.names.now (out-Clause c.args.clause.now).guard.items c.deref-tests-items.result.now c.loop-tests.tests-index c.args.state.now c.args.found.now c.loop-tests.found c.args.bound.now.items c.loop-tests.bound.items
+    c.deref-tests-items.ensures.value c.loop-tests-test.false c.loop-tests.invariant
 
 -- ---- nodes
 

@@ -1,9 +1,0 @@
-use Rattle.ef_token.specs.TokenForm.{TokensOf}
-use Rattle.ef_module.proofs.InnerTokens.{AreInner}
-use Rattle.ef_module.proofs.tests.tokens.Given as goal
-
-abbrev pub invariant-loop-letter : goal.invariant-loop-letter
-invariant-loop-letter l =
-    (goal.iterator-loop-letter).can_next l.letter-iterator ×
-    (goal.iterator-loop-letter).is_finite l.letter-iterator ×
-    AreInner l.tokens.items × TokensOf l.names l.tokens.items

@@ -1,6 +1,5 @@
 -- Printed text is ASCII, so its characters are its bytes.
-use Rattle.std.specs.Prelude.{ℕ, zero, suc, pos, negsuc, ◌<◌, ◌^◌, ◌==◌, ◌≡◌, ◌||◌, nat_lt, Bool, true, false, List, [], ◌∷◌, ◌++◌, flat_map, chars, IsAscii, IsUtf8, decimal, if◌then◌else◌, refl}
-use Rattle.std.specs.Fmt.{digits}
+use Rattle.std.specs.Prelude.{ℕ, zero, suc, pos, negsuc, ◌<◌, ◌^◌, ◌≡◌, nat_lt, Bool, true, false, List, [], ◌∷◌, ◌++◌, flat_map, chars, IsAscii, IsUtf8, decimal, if◌then◌else◌, refl}
 use Rattle.std.proofs.Common.{sym, subst, arith, inl, inr}
 use Rattle.std.proofs.lemmas.Bool.Decides.{nat_tests}
 use Rattle.std.proofs.lemmas.Str.{IsUtf8-from_ascii, chars-IsAscii, scalars-chars}
@@ -9,25 +8,16 @@ use Rattle.ef_base.specs.Characters.{Each, BeginsAndGoesOn, is_lower, is_upper, 
 use Rattle.ef_base.specs.Positions.{first_position}
 use Rattle.ef_core.specs.declared.layout.Last.{Last}
 use Rattle.ef_core.specs.declared.layout.Last.TheVariants.{Start, Newline, Opening, Callable, Other}
-use Rattle.ef_base.specs.Escape.{IsCharacter, is_hex}
+use Rattle.ef_base.specs.Escape.{IsCharacter}
+use Rattle.ef_base.proofs.Classes.{each_append, each_weaker, is_ascii}
+use Rattle.ef_base.proofs.EscapedTexts.{escaped_ascii}
 use Rattle.ef_core.specs.Lexeme as x
 use Rattle.ef_core.specs.Lexeme.{Lexeme, TheWord, Sym, Symbol, word_text, symbol_text, IsTextOf, CutsInto}
-use Rattle.ef_core.specs.Pieces.{Piece, Break, Put, spelling, escaped, hex_escape, closes, opens_args, after, gap, lay, lexemes}
+use Rattle.ef_core.specs.Pieces.{Piece, Break, Put, spelling, escaped, closes, opens_args, after, gap, lay, lexemes}
 use Rattle.ef_core.proofs.Longest.{AreCharacters, Good}
-use Rattle.ef_core.proofs.Numerals.{decimal_number, hex_number}
+use Rattle.ef_core.proofs.Numerals.{decimal_number}
 use Rattle.ef_core.proofs.Printed.{AllGood, printed_cut}
 use Rattle.ef_core.proofs.Spellings.{both_true, word_lower}
-
-abbrev is_ascii : ℕ → Bool
-is_ascii c = nat_lt c 128
-
-each_in : (p q : ℕ → Bool) → ((c : ℕ) → p c ≡ true → q c ≡ true) → (cs : List ℕ) → Each p cs → Each q cs
-each_in p q f [] h = tt
-each_in p q f (c ∷ cs) h = (f c h.0, each_in p q f cs h.1)
-
-each-append : (p : ℕ → Bool) (a b : List ℕ) → Each p a → Each p b → Each p (a ++ b)
-each-append p [] b h k = k
-each-append p (c ∷ a) b h k = (h.0, each-append p a b h.1 k)
 
 lower_ascii : (c : ℕ) → is_lower c ≡ true → is_ascii c ≡ true
 lower_ascii c h = grind (arith, nat_tests)
@@ -40,9 +30,6 @@ part_ascii c h = grind (arith, nat_tests)
 
 digit_ascii : (c : ℕ) → is_digit c ≡ true → is_ascii c ≡ true
 digit_ascii c h = grind (arith, nat_tests)
-
-hex_ascii : (c : ℕ) → is_hex c ≡ true → is_ascii c ≡ true
-hex_ascii c h = grind (arith, nat_tests)
 
 symbol_ascii : (s : Symbol) → Each is_ascii (symbol_text s)
 symbol_ascii x.Arrow = (refl, (refl, tt))
@@ -57,28 +44,17 @@ decimal_ascii n small = of (decimal n) (decimal_number n small).0
   where
     of : (ds : List ℕ) → BeginsAndGoesOn is_digit is_digit ds → Each is_ascii ds
     of [] h = tt
-    of (d ∷ ds) h = (digit_ascii d h.0, each_in is_digit is_ascii digit_ascii ds h.1)
-
-escaped_ascii : (c : ℕ) → IsCharacter c → Each is_ascii (escaped c)
-escaped_ascii c is = of (c == 39 || c == 92) (nat_lt c 32 || nat_lt 126 c) refl refl
-  where
-    of : (a b : Bool) → (c == 39 || c == 92) ≡ a → (nat_lt c 32 || nat_lt 126 c) ≡ b
-        → Each is_ascii (if a then 92 ∷ c ∷ [] else (if b then hex_escape c else c ∷ []))
-    of true b p q = (refl, (grind (arith, nat_tests), tt))
-    of false true p q =
-        let inner = each_in is_hex is_ascii hex_ascii (digits 16 false c) (hex_number c is).1 in
-        (refl, (refl, (refl, each-append is_ascii (digits 16 false c) (125 ∷ []) inner (refl, tt))))
-    of false false p q = (grind (arith, nat_tests), tt)
+    of (d ∷ ds) h = (digit_ascii d h.0, each_weaker is_digit is_ascii ds digit_ascii h.1)
 
 all_escaped_ascii : (cs : List ℕ) → AreCharacters cs → Each is_ascii (flat_map escaped cs)
 all_escaped_ascii [] all = tt
-all_escaped_ascii (c ∷ cs) all = each-append is_ascii (escaped c) (flat_map escaped cs) (escaped_ascii c all.0) (all_escaped_ascii cs all.1)
+all_escaped_ascii (c ∷ cs) all = each_append is_ascii (escaped c) (flat_map escaped cs) (escaped_ascii 39 c refl all.0) (all_escaped_ascii cs all.1)
 
 spelling_ascii : (l : Lexeme) → Good l → Each is_ascii (spelling l)
-spelling_ascii (TheWord w) g = each_in is_lower is_ascii lower_ascii (word_text w) (word_lower w)
-spelling_ascii (x.Atom cs) g = (refl, each-append is_ascii (flat_map escaped cs) (39 ∷ []) (all_escaped_ascii cs g) (refl, tt))
+spelling_ascii (TheWord w) g = each_weaker is_lower is_ascii (word_text w) lower_ascii (word_lower w)
+spelling_ascii (x.Atom cs) g = (refl, each_append is_ascii (flat_map escaped cs) (39 ∷ []) (all_escaped_ascii cs g) (refl, tt))
 spelling_ascii (x.Var []) g = absurd g
-spelling_ascii (x.Var (c ∷ cs)) g = (upper_ascii c g.0, each_in is_name_part is_ascii part_ascii cs g.1)
+spelling_ascii (x.Var (c ∷ cs)) g = (upper_ascii c g.0, each_weaker is_name_part is_ascii cs part_ascii g.1)
 spelling_ascii (x.Int (pos n)) g = decimal_ascii n (omega arith)
 spelling_ascii (x.Int (negsuc n)) g = (refl, decimal_ascii (suc n) (omega arith))
 spelling_ascii (x.Char c) g = absurd g
@@ -105,8 +81,8 @@ lay_ascii : (last : Last) (ps : List Piece) → AllGood ps → Each is_ascii (la
 lay_ascii last [] all = tt
 lay_ascii last (Break ∷ ps) all = lay_ascii Newline ps all
 lay_ascii last (Put l ∷ ps) all =
-    each-append is_ascii (gap last l ++ spelling l) (lay (after l) ps)
-    (each-append is_ascii (gap last l) (spelling l) (gap_ascii last l) (spelling_ascii l all.0)) (lay_ascii (after l) ps all.1)
+    each_append is_ascii (gap last l ++ spelling l) (lay (after l) ps)
+    (each_append is_ascii (gap last l) (spelling l) (gap_ascii last l) (spelling_ascii l all.0)) (lay_ascii (after l) ps all.1)
 
 each_below : (cs : List ℕ) → Each is_ascii cs → IsAscii cs
 each_below [] h i = omega arith
@@ -114,7 +90,7 @@ each_below (c ∷ cs) h zero = let first : is_ascii c ≡ true = h.0 in grind (a
 each_below (c ∷ cs) h (suc i) = each_below cs h.1 i
 
 pub printed_ascii : (last : Last) (ps : List Piece) → AllGood ps → IsAscii (lay last ps ++ 10 ∷ [])
-printed_ascii last ps all = each_below (lay last ps ++ 10 ∷ []) (each-append is_ascii (lay last ps) (10 ∷ []) (lay_ascii last ps all) (refl, tt))
+printed_ascii last ps all = each_below (lay last ps ++ 10 ∷ []) (each_append is_ascii (lay last ps) (10 ∷ []) (lay_ascii last ps all) (refl, tt))
 
 -- the printed text of pieces is cut into their lexemes
 pub printed_text_cut : (ps : List Piece) → AllGood ps → IsTextOf (lexemes ps) (lay Start ps ++ 10 ∷ [])
@@ -149,4 +125,4 @@ numbered_good n small = (refl, parts (decimal n) (decimal_number n small).0)
 
     parts : (ds : List ℕ) → BeginsAndGoesOn is_digit is_digit ds → Each is_name_part ds
     parts [] h = tt
-    parts (d ∷ ds) h = (digit_part d h.0, each_in is_digit is_name_part digit_part ds h.1)
+    parts (d ∷ ds) h = (digit_part d h.0, each_weaker is_digit is_name_part ds digit_part h.1)

@@ -1,19 +1,19 @@
 -- The printed text of a lexeme spells it, and is the longest lexeme at its place.
-use Rattle.std.specs.Prelude.{ℕ, suc, decimal, ℤ, pos, negsuc, neg_ℤ, ◌==◌, ◌≡◌, ◌⊎◌, ◌||◌, nat_lt, Bool, true, false, List, [], ◌∷◌, ◌++◌, flat_map, if◌then◌else◌, None, refl}
-use Rattle.std.specs.Fmt.{digits, signed_decimal}
+use Rattle.std.specs.Prelude.{ℕ, suc, decimal, ℤ, pos, negsuc, neg_ℤ, ◌==◌, ◌≡◌, ◌⊎◌, Bool, false, List, [], ◌∷◌, ◌++◌, flat_map, refl}
+use Rattle.std.specs.Fmt.{signed_decimal}
 use Rattle.std.proofs.Common.{ap, ◌∙◌, sym, subst, arith, inl, inr, append_assoc, append-nil}
-use Rattle.std.proofs.lemmas.Bool.Decides.{nat_tests}
 use Rattle.ef_base.specs.Characters.{Stops, Each, BeginsAndGoesOn, is_lower, is_upper, is_digit, is_name_part, number_after}
 use Rattle.ef_base.specs.Cut.{Longest}
-use Rattle.ef_base.specs.Escape.{IsCharacter, Written, WrittenAll, plainly, by_braces, itself, named, is_octal, value_after}
-use Rattle.ef_base.specs.Escape as escape
+use Rattle.ef_base.specs.Escape.{IsCharacter, WrittenAll}
 use Rattle.ef_core.specs.Lexeme as x
 use Rattle.ef_core.specs.Lexeme.{Lexeme, TheWord, Sym, Symbol, word_text, symbol_text, Spelled, IsNumber}
-use Rattle.ef_core.specs.Pieces.{spelling, escaped, hex_escape}
+use Rattle.ef_core.specs.Pieces.{spelling, escaped}
 use Rattle.ef_core.specs.WellFormed.{IsInRange}
 use Rattle.ef_core.proofs.CoreCut.{sort_of, begins_as}
+use Rattle.ef_base.proofs.Classes.{each_behind}
+use Rattle.ef_base.proofs.EscapedTexts.{escaped_written}
 use Rattle.ef_base.proofs.Escapes.{one_quoted, same_rest}
-use Rattle.ef_core.proofs.Numerals.{decimal_number, hex_number}
+use Rattle.ef_core.proofs.Numerals.{decimal_number}
 use Rattle.ef_core.proofs.Spellings.{sort, word_lower, extends_symbol, same_symbol}
 
 abbrev pub AreCharacters : List ℕ → Type 0
@@ -32,28 +32,10 @@ Good (Sym s) = Unit {0}
 
 -- ---- the text spells the lexeme
 
-special_itself : (c : ℕ) → (c == 39 || c == 92) ≡ true → (named c ≡ None) × ((is_octal c || c == 120 || c == 94) ≡ false)
-special_itself c h = (grind (arith, nat_tests), grind (arith, nat_tests))
-
-spells_hex : (c : ℕ) (rest : List ℕ) → IsCharacter c → Written (λ c. c == 39) c (hex_escape c) rest
-spells_hex c rest is =
-    let number = hex_number c is in
-    subst (λ d. Written (λ c. c == 39) d (hex_escape c) rest) number.2
-    (escape.escaped (value_after 16 0 (digits 16 false c)) (120 ∷ 123 ∷ (digits 16 false c ++ 125 ∷ [])) rest
-    (by_braces (digits 16 false c) rest number.0 number.1 (subst IsCharacter (sym number.2) is)))
-
-spells_character : (c : ℕ) (rest : List ℕ) → IsCharacter c → Written (λ c. c == 39) c (escaped c) rest
-spells_character c rest is = of (c == 39 || c == 92) (nat_lt c 32 || nat_lt 126 c) refl
-  where
-    of : (a b : Bool) → (c == 39 || c == 92) ≡ a → Written (λ c. c == 39) c (if a then 92 ∷ c ∷ [] else (if b then hex_escape c else c ∷ [])) rest
-    of true b p = let other = special_itself c p in escape.escaped c (c ∷ []) rest (itself c rest other.0 other.1)
-    of false true p = spells_hex c rest is
-    of false false p = plainly c rest p
-
 spells_characters : (cs rest : List ℕ) → AreCharacters cs → WrittenAll (λ c. c == 39) cs (flat_map escaped cs) rest
 spells_characters [] rest all = refl
 spells_characters (c ∷ cs) rest all =
-    (escaped c, flat_map escaped cs, refl, spells_character c (flat_map escaped cs ++ rest) all.0, spells_characters cs rest all.1)
+    (escaped c, flat_map escaped cs, refl, escaped_written 39 c (flat_map escaped cs ++ rest) refl all.0, spells_characters cs rest all.1)
 
 pub spelled : (l : Lexeme) (rest : List ℕ) → Good l → Spelled l (spelling l) rest
 spelled (TheWord w) rest g = refl
@@ -78,10 +60,6 @@ extends (x.Int n) c = is_digit c
 extends (x.Char d) c = false
 extends (x.Str cs) c = false
 extends (Sym s) c = extends_symbol s c
-
-each_behind : (p : ℕ → Bool) (a b : List ℕ) → Each p (a ++ b) → Each p b
-each_behind p [] b h = h
-each_behind p (c ∷ a) b h = each_behind p a b h.1
 
 stops_front : (p : ℕ → Bool) (more after rest : List ℕ) → rest ≡ more ++ after → Stops p rest → Stops p more
 stops_front p [] after rest e s = tt

@@ -1,12 +1,10 @@
 -- Printed digits are digits of the lexemes, and of the same value.
-use Rattle.std.specs.Prelude.{ℕ, ◌+◌, ◌*◌, ◌-◌, ◌<◌, ◌≤◌, ◌^◌, ◌≡◌, true, false, List, [], ◌∷◌, length, decimal, refl}
-use Rattle.std.specs.Fmt.{digits}
+use Rattle.std.specs.Prelude.{ℕ, ◌+◌, ◌*◌, ◌-◌, ◌<◌, ◌^◌, ◌≡◌, true, List, [], ◌∷◌, length, decimal, refl}
 use Rattle.std.specs.Str.Parse.{AllDigits, digits_value_after}
-use Rattle.std.proofs.Common.{ap, ◌∙◌, arith, inl, inr}
+use Rattle.std.proofs.Common.{ap, ◌∙◌, arith}
 use Rattle.std.proofs.lemmas.Bool.Decides.{nat_tests}
-use Rattle.std.proofs.lemmas.Fmt.{digits_is_IsNumeral, decimal_is_IsNumeral_wide}
+use Rattle.std.proofs.lemmas.Fmt.{decimal_is_IsNumeral_wide}
 use Rattle.ef_base.specs.Characters.{Each, is_digit, number_after}
-use Rattle.ef_base.specs.Escape.{IsCharacter, is_hex, digit_value, value_after}
 use Rattle.ef_core.specs.Lexeme.{IsNumber}
 
 each_decimal : (ds : List ℕ) → AllDigits 10 ds → Each is_digit ds
@@ -33,26 +31,3 @@ decimal_number n small =
       begins_number (decimal n) is.0.0 (each_decimal (decimal n) is.0.1),
       decimal_value 0 (decimal n) is.0.1 ∙ is.1,
     )
-
-each_hex : (ds : List ℕ) → AllDigits 16 ds → Each is_hex ds
-each_hex [] h = tt
-each_hex (d ∷ ds) h = (one d (h.0, tt), each_hex ds h.1)
-  where
-    one : (d : ℕ) → AllDigits 16 (d ∷ []) → is_hex d ≡ true
-    one d h = grind (arith, nat_tests, h.0)
-
-hex_value : (n : ℕ) (ds : List ℕ) → AllDigits 16 ds → value_after 16 n ds ≡ digits_value_after 16 n ds
-hex_value n [] h = refl
-hex_value n (d ∷ ds) h = hex_value (16 * n + digit_value d) ds h.1 ∙ ap (λ m. digits_value_after 16 m ds) (one n d (h.0, tt))
-  where
-    one : (n d : ℕ) → AllDigits 16 (d ∷ []) → 16 * n + digit_value d ≡ digits_value_after 16 n (d ∷ [])
-    one n d h = grind (arith, nat_tests, h.0)
-
-small_character : (c : ℕ) → IsCharacter c → c < 16 ^ 64
-small_character c (inl low) = omega arith
-small_character c (inr high) = omega (arith, high.1)
-
-pub hex_number : (c : ℕ) → IsCharacter c → (1 ≤ length (digits 16 false c)) × Each is_hex (digits 16 false c) × (value_after 16 0 (digits 16 false c) ≡ c)
-hex_number c is =
-    let digit = digits_is_IsNumeral 16 false (omega arith) (omega arith) c (small_character c is) in
-    (digit.0.0, each_hex (digits 16 false c) digit.0.1, hex_value 0 (digits 16 false c) digit.0.1 ∙ digit.1)

@@ -1,6 +1,8 @@
 -- From lexemes and places where lines begin to characters.
-use Rattle.std.specs.Prelude.{ℕ, Bool, true, false, List, [], ◌∷◌, ◌++◌, flat_map, codes, if◌then◌else◌, ◌==◌, ◌||◌, nat_lt}
-use Rattle.std.specs.Fmt.{digits, signed_decimal}
+use Rattle.std.specs.Prelude.{ℕ, Bool, true, false, List, [], ◌∷◌, ◌++◌, flat_map, if◌then◌else◌}
+use Rattle.std.specs.Fmt.{signed_decimal}
+use Rattle.ef_base.specs.Escaped as quotes
+pub use Rattle.ef_base.specs.Escaped.{hex_escape}
 use Rattle.ef_core.specs.declared.layout.Last.{Last}
 use Rattle.ef_core.specs.declared.layout.Last.TheVariants.{Start, Newline, Opening, Callable, Other}
 use Rattle.ef_core.specs.Lexeme as x
@@ -19,14 +21,9 @@ put_sym s = Put (Sym s) ∷ []
 
 -- ---- from pieces to characters
 
--- `\x{H}`, in lower-case hexadecimal without leading zeros
-abbrev pub hex_escape : ℕ → List ℕ
-hex_escape c = codes "\\x{" ++ (digits 16 false c ++ codes "}")
-
+-- between the quotes of an atom
 abbrev pub escaped : ℕ → List ℕ
-escaped c =
-    if c == 39 || c == 92 then 92 ∷ c ∷ []
-    else (if nat_lt c 32 || nat_lt 126 c then hex_escape c else c ∷ [])
+escaped = quotes.escaped 39
 
 abbrev pub spelling : Lexeme → List ℕ
 spelling (TheWord w) = word_text w

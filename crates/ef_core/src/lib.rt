@@ -10,8 +10,6 @@ mod lexeme;
 mod literal;
 mod lowered;
 mod module;
-#[cfg(test)]
-mod tests;
 mod tree;
 mod weight;
 

@@ -16,8 +16,9 @@ use Rattle.ef_forms.specs.Plain.{trees}
 use Rattle.ef_forms.specs.Built.{IsAmong, IsDistinct}
 use Rattle.ef_meaning.specs.Value.{Value, values_of, with_some}
 use Rattle.ef_meaning.specs.Exception.{Error, function_clause}
-use Rattle.ef_meaning.specs.End.{Gives, Raises, Wrong, and_then}
-use Rattle.ef_meaning.specs.Keeps.{Ahead}
+use Rattle.ef_meaning.specs.Outside.{State}
+use Rattle.ef_meaning.specs.End.{End, Gives, Raises, Wrong, and_then}
+use Rattle.ef_meaning.specs.Keeps.{Ahead, Keeps}
 use Rattle.ef_meaning.specs.Match.{Bindings, value_of, match_name, match_values, match_all}
 use Rattle.ef_meaning.specs.Source as source
 use Rattle.ef_meaning.specs.Source.{Module, Source, by_clauses}
@@ -27,7 +28,7 @@ use Rattle.ef_meaning.specs.Cases.{HoldsNames, together, variables}
 use Rattle.ef_meaning.specs.Lowers.{SameAt, Describes, AreBelow, Related, SameValue, After, KeepsAll, KeepsExpr, KeepsLast, KeepsBody, KeepsFunction, Exports, AllBound, valued, params_from, env_from, finished}
 use Rattle.ef_meaning.proofs.Ends.{begins_refl, then_same, then_then, then_gives}
 use Rattle.ef_meaning.proofs.SourceLaws as source_laws
-use Rattle.ef_meaning.proofs.Simulate.{keeps_same, gives_keeps, then_keeps, map_keeps, weaker}
+use Rattle.ef_meaning.proofs.Simulate.{keeps_same, gives_keeps, then_keeps, map_keeps, weaker, wrong_keeps}
 use Rattle.ef_meaning.proofs.Variables.{here, are_below_more, describes_more, agree_trans}
 use Rattle.ef_meaning.proofs.Steps.{steps_steady, eval_steady, valued_steady, valued_append, body_append, const_steady}
 use Rattle.ef_meaning.proofs.Parts.{includes_left, includes_right, bodies_both}
@@ -281,6 +282,12 @@ one_export a vs ex = by ex.names ex.is ex.bound
     by [] e h = e
     by (o ∷ os) e h = absurd h
 
+-- clauses with another number of patterns have no meaning
+pub clause_keeps : {B F G : Type 0} (R : Value → B → Type 0) (Q : State F → State G → Type 0) (n : ℕ) (t : Bool) (e : End (Value × Bindings) (State F)) (C : ℕ → End B (State G)) →
+    (t ≡ true → Keeps R Q n (and_then e (λ a u. Gives a.0 u)) C) → Keeps R Q n (and_then (if t then e else Wrong) (λ a u. Gives a.0 u)) C
+clause_keeps R Q n true e C k = k refl
+clause_keeps R Q n false e C k = wrong_keeps R Q n C
+
 -- a function of one clause, whose parameters are distinct variables
 pub function_keeps : (now : Texts) (p : Place) (ps : Trees) (xs : List Name) (es : List Tree) (body : CoreTree) → AreVariables ps xs → IsDistinct xs → KeepsBody now es (env_from 0 xs) [] body →
     KeepsFunction now (by_clauses (clause p ps no_guard (trees es) no_clauses) []) (params_from 0 xs) body
@@ -289,11 +296,11 @@ function_keeps now p ps xs es body are distinct k = record {
   bodies = k.bodies;
   keeps = λ w cw world all inc n calls en vs s t same len.
       let i = parameters w.texts 0 [] xs ps vs [] [] are distinct (none_free xs) tt (record { each = λ x. tt }) len in
-      keeps_same SameValue (Related cw all en) n _ (and_then (source.eval_body w (trees es) (source.levels w n) i.0 s) (λ a u. Gives a.0 u)) _ (λ m. core.core cw m body i.1 [] t)
+      clause_keeps SameValue (Related cw all en) n _ _ _ (λ wide. keeps_same SameValue (Related cw all en) n _ (and_then (source.eval_body w (trees es) (source.levels w n) i.0 s) (λ a u. Gives a.0 u)) _ (λ m. core.core cw m body i.1 [] t)
       (ap (λ o. source.value_only (source.chosen o (λ c. source.eval_body w (trees es) (source.levels w n) c s) (Raises Error function_clause s))) i.2)
       (λ j m. core.run_body cw (core.levels cw m) body [] (i.3 j) t)
       (map_keeps (Exports []) SameValue (Related cw all en) n (source.eval_body w (trees es) (source.levels w n) i.0 s) (λ m. core.core cw m body i.1 [] t) (λ a. a.0)
       (eval_steady cw body i.1 [] t).extends
       (λ a us ex. one_export a us ex)
-      (k.keeps i.0 i.1 i.4 w cw world all inc n calls en [] s t (record { each = λ f g found. refl }) same));
+      (k.keeps i.0 i.1 i.4 w cw world all inc n calls en [] s t (record { each = λ f g found. refl }) same)));
 }

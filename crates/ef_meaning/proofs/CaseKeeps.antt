@@ -31,13 +31,13 @@ use Rattle.ef_meaning.specs.Patterns.{IsGuard, KeepsPicks}
 use Rattle.ef_meaning.specs.Cases.{FailsValue, case_step, last_clause, whole_case}
 use Rattle.ef_meaning.proofs.Ends.{begins_refl, then_ahead, then_same, then_then}
 use Rattle.ef_meaning.proofs.SourceLaws as laws
-use Rattle.ef_meaning.proofs.Simulate.{keeps_same, gives_keeps, const_keeps, then_keeps}
+use Rattle.ef_meaning.proofs.Simulate.{keeps_same, when_keeps, gives_keeps, const_keeps, then_keeps}
 use Rattle.ef_meaning.proofs.Variables.{here, held_below, are_below_more, agree_refl, agree_more, agree_fewer, agree_trans, value_eval}
 use Rattle.ef_meaning.proofs.Steps.{run_append, steps_steady, eval_steady, const_steady}
 use Rattle.ef_meaning.proofs.Bodies.{same_name, not_bound}
 use Rattle.ef_meaning.proofs.Covers.{value_behind, value_filter, value_front}
 use Rattle.ef_meaning.proofs.Parts.{includes_left, includes_right, bodies_both}
-use Rattle.ef_meaning.proofs.Picks.{clause_taken, pick_append}
+use Rattle.ef_meaning.proofs.Picks.{all_fit, clause_taken, pick_append}
 use Rattle.ef_meaning.proofs.Fails.{value_here}
 use Rattle.ef_meaning.proofs.Renamed.{bound_agree, bound_from, held_behind, held_front, renamed_below}
 
@@ -116,7 +116,7 @@ module _ (now : Texts) (q : Place) (e : Tree) (cs : Clauses) (n0 : ℕ) (env0 : 
 
   -- the source, once the value is there
   abbrev picked : Module → source.Levels → Value → Bindings → Source → source.Answer
-  picked w ls v b s = source.pick w cs (v ∷ []) ls b (λ u. u) (λ u. Raises Error (case_clause v) u) s
+  picked w ls v b s = if source.are_wide 1 cs then source.pick w cs (v ∷ []) ls b (λ u. u) (λ u. Raises Error (case_clause v) u) s else Wrong
 
   abbrev picked_all : Module → source.Levels → List Value → Bindings → Source → End (List Value × Bindings) Source
   picked_all w ls (v ∷ []) b s = and_then (picked w ls v b s) (λ r u. Gives (r.0 ∷ [], kept (clauses_sure cs) r.1 b) u)
@@ -145,10 +145,12 @@ module _ (now : Texts) (q : Place) (e : Tree) (cs : Clauses) (n0 : ℕ) (env0 : 
       abbrev Bound : List Value → Target → End Vars Target
       Bound vs t = and_then (core.given (core.bind (Numbered n3 ∷ params_from (n3 + 1) sure) vs d) t) (λ m t. Gives m t)
 
-      whole_is : (m : ℕ) → Whole m ≡ core.pick cw (clauses made) (v ∷ []) (core.levels cw m) d fs (λ t. t) (Others m) y
-      whole_is m =
-          ap (λ o. and_then o (λ vs t. core.pick cw (clauses (made ++ last_clause always (z ∷ []) fails ∷ [])) vs (core.levels cw m) d fs (λ t. t) (λ t. Wrong) t))
+      whole_is : source.are_wide 1 cs ≡ true → (m : ℕ) → Whole m ≡ core.pick cw (clauses made) (v ∷ []) (core.levels cw m) d fs (λ t. t) (Others m) y
+      whole_is wide m =
+          let all_clauses = clauses (made ++ last_clause always (z ∷ []) fails ∷ []) in
+          ap (λ o. and_then o (λ vs t. if core.all_can_match (length vs) all_clauses then core.pick cw all_clauses vs (core.levels cw m) d fs (λ t. t) (λ t. Wrong) t else Wrong))
           (value_eval cw x v (core.levels cw m) d fs y (subst (λ ts. IsValue ts x v d) (sym world.texts) holds))
+          ∙ ap (λ b. if b then core.pick cw all_clauses (v ∷ []) (core.levels cw m) d fs (λ t. t) (λ t. Wrong) y else Wrong) (all_fit 1 made (last_clause always (z ∷ []) fails ∷ []) (picks.fits 1 wide) refl)
           ∙ pick_append cw made (last_clause always (z ∷ []) fails ∷ []) (v ∷ []) (core.levels cw m) d fs (λ t. t) (λ t. Wrong) y
 
       fails_last : (m : ℕ) (t : Target) → Others m t ≡ Raises Error (case_clause v) t
@@ -156,11 +158,12 @@ module _ (now : Texts) (q : Place) (e : Tree) (cs : Clauses) (n0 : ℕ) (env0 : 
           clause_taken now [] always none cw later (plain.pats (to.pat_var z ∷ [])) fails to.no_clauses (v ∷ []) (core.levels cw m) d ((z, v) ∷ d) fs (λ t. t) (λ t. Wrong) t true refl refl
           ∙ failing.raises cw later (core.levels cw m) ((z, v) ∷ d) fs t v (value_here z v d)
 
-      whole_keeps : Keeps (Exports sure) (Related cw all en) n (picked w (source.levels w n) v b u) Whole
-      whole_keeps = keeps_same (Exports sure) (Related cw all en) n _ (picked w (source.levels w n) v b u) Whole (λ m. core.pick cw (clauses made) (v ∷ []) (core.levels cw m) d fs (λ t. t) (Others m) y) refl (λ i m. whole_is m i)
+      pub whole_keeps : Keeps (Exports sure) (Related cw all en) n (picked w (source.levels w n) v b u) Whole
+      whole_keeps = when_keeps (Exports sure) (Related cw all en) n (source.are_wide 1 cs) _ Whole (λ wide.
+          keeps_same (Exports sure) (Related cw all en) n _ (source.pick w cs (v ∷ []) (source.levels w n) b (λ s. s) (λ s. Raises Error (case_clause v) s) u) Whole (λ m. core.pick cw (clauses made) (v ∷ []) (core.levels cw m) d fs (λ t. t) (Others m) y) refl (λ i m. whole_is wide m i)
           (picks.keeps (v ∷ []) b d described w cw world all includes n calls en fs u y hides related (λ s. s) (λ t. t) (λ s. Raises Error (case_clause v) s) Others (λ s t r. r)
           (λ s t r. keeps_same (Exports sure) (Related cw all en) n _ (Raises Error (case_clause v) s) _ (λ m. Raises Error (case_clause v) t) refl (λ i m. fails_last m t i)
-          (const_keeps (Exports sure) (Related cw all en) n (Raises Error (case_clause v) s) (Raises Error (case_clause v) t) (refl, refl, r))))
+          (const_keeps (Exports sure) (Related cw all en) n (Raises Error (case_clause v) s) (Raises Error (case_clause v) t) (refl, refl, r)))))
 
       bound_keeps : (r : Value × Bindings) (vs : List Value) (s : Source) (t : Target) → Exports sure r vs → Related cw all en s t → Keeps R (Related cw all en) n (Gives (r.0 ∷ [], kept (clauses_sure cs) r.1 b) s) (λ m. Bound vs t)
       bound_keeps r vs s t exports same =

@@ -1,5 +1,5 @@
 -- Core: events only grow, and a larger bound keeps an end and extends the events of what goes on.
-use Rattle.std.proofs.Common.{ℕ, zero, suc, ◌≤◌, codes, bytes_eq, List, [], ◌∷◌, Option, Some, None, refl, sym, ap, subst, arith}
+use Rattle.std.proofs.Common.{ℕ, zero, suc, ◌≤◌, codes, bytes_eq, List, [], ◌∷◌, length, Option, Some, None, refl, sym, ap, subst, arith}
 use Rattle.ef_base.specs.Texts.{Texts, text}
 use Rattle.ef_core.specs.declared.literal.FName.{FName}
 use Rattle.ef_core.specs.Tree as tree
@@ -9,7 +9,7 @@ use Rattle.ef_meaning.specs.Lookup.{find}
 use Rattle.ef_meaning.specs.Outside.{Event}
 use Rattle.ef_meaning.specs.End.{End, Gives, Raises, Waits, More, Wrong, and_then}
 use Rattle.ef_meaning.specs.Keeps.{Ahead, Extends}
-use Rattle.ef_meaning.specs.Core.{Vars, Funs, Code, Target, Answer, Levels, CoreModule, value_at, entry_of, single, one_value, applied, code_of, side, match_all, unchanged, decided, guarded, chosen, match_fail, primitive, held_value, bind, given, function_value, eval, pick, eval_all, eval_steps, run_body, levels, core}
+use Rattle.ef_meaning.specs.Core.{Vars, Funs, Code, Target, Answer, Levels, CoreModule, value_at, entry_of, single, one_value, applied, code_of, side, match_all, all_can_match, unchanged, decided, guarded, chosen, match_fail, primitive, held_value, bind, given, function_value, eval, pick, eval_all, eval_steps, run_body, levels, core}
 use Rattle.ef_meaning.proofs.Ends.{OnlyAdds, begins_refl, ahead_trans, extends_refl, if_ahead, if_extends, then_ahead, then_extends}
 use Rattle.ef_meaning.proofs.CalledLaws.{SideGrows, SideBelow, apply_ahead, apply_extends, remote_ahead, remote_extends}
 
@@ -89,7 +89,7 @@ module _ (w : CoreModule) where
     eval_ahead (list es) ls c fs s g = then_ahead _ (eval_all w es ls c fs s) _ (all_ahead es ls c fs s g) (λ vs t. begins_refl t.outside.events)
     eval_ahead (list_to es e) ls c fs s g = then_ahead _ (eval_all w es ls c fs s) _ (all_ahead es ls c fs s g) (λ vs t.
         then_ahead _ (and_then (eval w e ls c fs t) single) _ (single_after _ (eval w e ls c fs t) (eval_ahead e ls c fs t g)) (λ v u. begins_refl u.outside.events))
-    eval_ahead (case_of e cs) ls c fs s g = then_ahead _ (eval w e ls c fs s) _ (eval_ahead e ls c fs s g) (λ vs t. pick_ahead cs vs ls c fs (λ u. u) (λ u. Wrong) t g (λ u. begins_refl u.outside.events) (λ u. tt))
+    eval_ahead (case_of e cs) ls c fs s g = then_ahead _ (eval w e ls c fs s) _ (eval_ahead e ls c fs s g) (λ vs t. if_ahead _ (all_can_match (length vs) cs) _ _ (pick_ahead cs vs ls c fs (λ u. u) (λ u. Wrong) t g (λ u. begins_refl u.outside.events) (λ u. tt)) tt)
     eval_ahead (primop f es) ls c fs s g = then_ahead _ (eval_all w es ls c fs s) _ (all_ahead es ls c fs s g) (λ vs t. primitive_ahead (text w.texts f) vs t)
     eval_ahead (lets ss e) ls c fs s g = then_ahead _ (eval_steps w ss ls c fs s) _ (steps_ahead ss ls c fs s g) (λ d t. eval_ahead e ls d fs t g)
     eval_ahead (tree.apply f es) ls c fs s g = then_ahead _ (and_then (eval w f ls c fs s) single) _ (single_after _ (eval w f ls c fs s) (eval_ahead f ls c fs s g)) (λ h t.
@@ -182,8 +182,8 @@ module _ (w : CoreModule) where
         (λ vs t. then_extends (and_then (eval w e ls c fs t) single) (and_then (eval w e ks c fs t) single) _ _ (single_extends (eval w e ls c fs t) (eval w e ks c fs t) (eval_extends e ls ks c fs t p g)) (λ v u. refl) (λ v u. begins_refl u.outside.events))
         (λ vs t. then_ahead _ (and_then (eval w e ks c fs t) single) _ (single_after _ (eval w e ks c fs t) (eval_ahead w e ks c fs t g)) (λ v u. begins_refl u.outside.events))
     eval_extends (case_of e cs) ls ks c fs s p g = then_extends (eval w e ls c fs s) (eval w e ks c fs s) _ _ (eval_extends e ls ks c fs s p g)
-        (λ vs t. pick_extends cs vs ls ks c fs (λ u. u) (λ u. Wrong) (λ u. Wrong) t p g (λ u. begins_refl u.outside.events) (λ u. refl) (λ u. tt))
-        (λ vs t. pick_ahead w cs vs ks c fs (λ u. u) (λ u. Wrong) t g (λ u. begins_refl u.outside.events) (λ u. tt))
+        (λ vs t. if_extends (all_can_match (length vs) cs) _ _ _ _ (pick_extends cs vs ls ks c fs (λ u. u) (λ u. Wrong) (λ u. Wrong) t p g (λ u. begins_refl u.outside.events) (λ u. refl) (λ u. tt)) refl)
+        (λ vs t. if_ahead _ (all_can_match (length vs) cs) _ _ (pick_ahead w cs vs ks c fs (λ u. u) (λ u. Wrong) t g (λ u. begins_refl u.outside.events) (λ u. tt)) tt)
     eval_extends (primop f es) ls ks c fs s p g = then_extends (eval_all w es ls c fs s) (eval_all w es ks c fs s) _ _ (all_extends es ls ks c fs s p g)
         (λ vs t. extends_refl (primitive (text w.texts f) vs t)) (λ vs t. primitive_ahead (text w.texts f) vs t)
     eval_extends (lets ss e) ls ks c fs s p g = then_extends (eval_steps w ss ls c fs s) (eval_steps w ss ks c fs s) _ _ (steps_extends ss ls ks c fs s p g) (λ d t. eval_extends e ls ks d fs t p g) (λ d t. eval_ahead w e ks d fs t g)

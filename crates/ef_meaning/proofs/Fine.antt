@@ -1,6 +1,8 @@
 -- The source is never without meaning where each name is bound and each function that is called is defined.
 use Rattle.std.proofs.Common.{◌≡◌, ◌≢◌, ℕ, zero, suc, ◌≤◌, ◌&&◌, ◌||◌, ◌==◌, Bool, true, false, if◌then◌else◌, codes, bytes_eq, List, [], ◌∷◌, length, Option, Some, None, refl, sym, ap, ◌∙◌, subst, arith}
 use Rattle.std.specs.Prelude.{slice_get}
+use Rattle.std.proofs.lemmas.Bool.{and_from}
+use Rattle.std.proofs.lemmas.Bool.Decides.{nat_tests}
 use Rattle.ef_base.specs.declared.name.Name.{Name}
 use Rattle.ef_base.specs.Texts.{text}
 use Rattle.ef_forms.specs.Tree.{Tree, Shape, Trees, Clauses, tree, int, atom, var, any, list, list_to, tuple, matching, call, remote, case_of, end, more, no_guard, or_guard, no_clauses, clause, count}
@@ -18,9 +20,12 @@ use Rattle.ef_meaning.specs.Pure.{pure}
 use Rattle.ef_meaning.specs.Match.{Bindings, value_of, match_all}
 use Rattle.ef_meaning.specs.Match as source_match
 use Rattle.ef_meaning.specs.Source as source
-use Rattle.ef_meaning.specs.Source.{Function, Body, by_clauses, information, Source, Levels, Module, applied, of_arity, arities, side, beside, eval, eval_shape, eval_all, eval_body, pick, run_body, levels, target, named, matched, chosen}
+use Rattle.ef_meaning.specs.Source.{Function, Body, by_clauses, information, Source, Levels, Module, applied, of_arity, arities, side, beside, eval, eval_shape, eval_all, eval_body, pick, run_body, levels, target, named, matched, chosen, are_wide}
 use Rattle.ef_meaning.proofs.CalledLaws.{back}
 use Rattle.ef_meaning.proofs.Covers.{IsBoundTo, Covers, Follows, nothing, follows_refl, follows_trans, still, covers_union, common_left, common_right, kept_follows, tree_follows, all_follows}
+
+counts_same : (m n : ℕ) → m ≡ n → (m == n) ≡ true
+counts_same m n p = grind (arith, nat_tests)
 
 -- ---- what is safe
 
@@ -44,7 +49,7 @@ module _ (w : Module) where
     IsSafeShape s (matching p e) = IsSafe s e
     IsSafeShape s (call f es) = IsSafeTarget f (count es) × AreSafe s es
     IsSafeShape s (remote m f es) = IsSafe s m × IsSafe s f × AreSafe s es
-    IsSafeShape s (case_of e cs) = IsSafe s e × AreSafeClauses (union s (sure e)) cs
+    IsSafeShape s (case_of e cs) = IsSafe s e × AreSafeClauses 1 (union s (sure e)) cs
 
     -- only functions of the module are called
     pub IsSafeTarget : Tree → ℕ → Type 0
@@ -60,22 +65,27 @@ module _ (w : Module) where
     AreSafeInTurn s end = Unit {0}
     AreSafeInTurn s (more e es) = IsSafe s e × AreSafeInTurn (union s (sure e)) es
 
-    pub AreSafeClauses : NameSet → Clauses → Type 0
-    AreSafeClauses s no_clauses = Unit {0}
-    AreSafeClauses s (clause p ps g body cs) = (g ≡ no_guard) × (1 ≤ count body) × AreSafeInTurn (union s (all_names ps)) body × AreSafeClauses s cs
+    -- each with so many patterns
+    pub AreSafeClauses : ℕ → NameSet → Clauses → Type 0
+    AreSafeClauses a s no_clauses = Unit {0}
+    AreSafeClauses a s (clause p ps g body cs) = (g ≡ no_guard) × (1 ≤ count body) × AreSafeInTurn (union s (all_names ps)) body × AreSafeClauses a s cs × (count ps ≡ a)
 
--- under names that are bound in what it saves
-abbrev pub IsSafeBody : Module → Body → Type 0
-IsSafeBody w (by_clauses cs saved) = (s : NameSet) × Covers s saved × AreSafeClauses w s cs
-IsSafeBody w information = Unit {0}
+safe_wide : (w : Module) (a : ℕ) (s : NameSet) (cs : Clauses) → AreSafeClauses w a s cs → are_wide a cs ≡ true
+safe_wide w a s no_clauses safe = refl
+safe_wide w a s (clause p ps g body cs) safe = and_from (count ps == a) (are_wide a cs) (counts_same (count ps) a safe.4) (safe_wide w a s cs safe.3)
+
+-- of so many parameters, under names that are bound in what it saves
+abbrev pub IsSafeBody : Module → ℕ → Body → Type 0
+IsSafeBody w a (by_clauses cs saved) = (s : NameSet) × Covers s saved × AreSafeClauses w a s cs
+IsSafeBody w a information = Unit {0}
 
 abbrev pub AreSafeFunctions : Module → List Function → Type 0
 AreSafeFunctions w [] = Unit {0}
-AreSafeFunctions w (f ∷ fs) = IsSafeBody w f.body × AreSafeFunctions w fs
+AreSafeFunctions w (f ∷ fs) = IsSafeBody w f.arity f.body × AreSafeFunctions w fs
 
 -- each function of the module is safe
 pub record IsSafeModule (w : Module) : Type 0 where
-  pub each : (f : List ℕ) (a : ℕ) (g : Function) → find f a w.functions ≡ Some g → IsSafeBody w g.body
+  pub each : (f : List ℕ) (a : ℕ) (g : Function) → find f a w.functions ≡ Some g → IsSafeBody w a g.body
 
 -- ---- ends that have a meaning, and leave made funs that are safe
 
@@ -122,26 +132,33 @@ outside_fine w calls k m f vs s all = by (pure m f vs)
 
 -- a fun that stands for a function which is safe
 abbrev IsReadyFun : Module → Value → Source → Type 0
-IsReadyFun w (Local f a) s = (g : Function) × (find f a w.functions ≡ Some g) × IsSafeBody w g.body
-IsReadyFun w (Made k a) s = (g : Function) × (of_arity a (nth s.store k) ≡ Some g) × IsSafeBody w g.body
+IsReadyFun w (Local f a) s = (g : Function) × (find f a w.functions ≡ Some g) × IsSafeBody w a g.body
+IsReadyFun w (Made k a) s = (g : Function) × (of_arity a (nth s.store k) ≡ Some g) × IsSafeBody w a g.body
 IsReadyFun w _ s = Unit {0}
 
 abbrev pub LevelsFine : Module → Levels → Type 0
 LevelsFine w [] = Unit {0}
-LevelsFine w (l ∷ ls) = ((f : Function) (vs : List Value) (s : Source) → IsSafeBody w f.body → AreSafeFunctions w s.store → Fine w Any (l f vs s)) × LevelsFine w ls
+LevelsFine w (l ∷ ls) = ((f : Function) (vs : List Value) (s : Source) → IsSafeBody w (length vs) f.body → AreSafeFunctions w s.store → Fine w Any (l f vs s)) × LevelsFine w ls
 
-some_applied : (w : Module) (o : Option Function) (g : Function) (ls : Levels) (vs : List Value) (s : Source) → LevelsFine w ls → o ≡ Some g → IsSafeBody w g.body → AreSafeFunctions w s.store → Fine w Any (applied o ls vs s)
+some_applied : (w : Module) (o : Option Function) (g : Function) (ls : Levels) (vs : List Value) (s : Source) → LevelsFine w ls → o ≡ Some g → IsSafeBody w (length vs) g.body → AreSafeFunctions w s.store → Fine w Any (applied o ls vs s)
 some_applied w o g [] vs s fine is safe all = subst (λ p. Fine w Any (applied p [] vs s)) (sym is) tt
 some_applied w o g (l ∷ ls) vs s fine is safe all = subst (λ p. Fine w Any (applied p (l ∷ ls) vs s)) (sym is) (fine.0 g vs s safe all)
 
-if_fine : (w : Module) (t : Bool) (e f : End Value Source) → Fine w Any e → Fine w Any f → Fine w Any (if t then e else f)
-if_fine w true e f p q = p
-if_fine w false e f p q = q
+same_count : (m n : ℕ) → (m == n) ≡ true → m ≡ n
+same_count m n p = grind (arith, nat_tests)
+
+-- what is done with so many arguments
+counted_fine : (w : Module) (m n : ℕ) (e f : End Value Source) → (m ≡ n → Fine w Any e) → Fine w Any f → Fine w Any (if m == n then e else f)
+counted_fine w m n e f p q = by (m == n) refl
+  where
+    by : (t : Bool) → (m == n) ≡ t → Fine w Any (if t then e else f)
+    by true same = p (same_count m n same)
+    by false same = q
 
 fun_fine : (w : Module) (ls : Levels) → LevelsFine w ls → ((s : Source) → AreSafeFunctions w s.store → Fine w Any (answered (side w) ls s)) → (f : Value) (vs : List Value) (s : Source) → IsReadyFun w f s → AreSafeFunctions w s.store → Fine w Any (apply (side w) ls f vs s)
-fun_fine w ls fine calls (Local f a) vs s ready all = if_fine w (length vs == a) _ _ (some_applied w (find f a w.functions) ready.0 ls vs s fine ready.1 ready.2 all) all
-fun_fine w ls fine calls (Made k a) vs s ready all = if_fine w (length vs == a) _ _ (some_applied w (of_arity a (nth s.store k)) ready.0 ls vs s fine ready.1 ready.2 all) all
-fun_fine w ls fine calls (External m f a) vs s ready all = if_fine w (length vs == a) _ _ (outside_fine w (answered (side w) ls) calls m f vs s all) all
+fun_fine w ls fine calls (Local f a) vs s ready all = counted_fine w (length vs) a _ _ (λ e. some_applied w (find f a w.functions) ready.0 ls vs s fine ready.1 (subst (λ n. IsSafeBody w n ready.0.body) (sym e) ready.2) all) all
+fun_fine w ls fine calls (Made k a) vs s ready all = counted_fine w (length vs) a _ _ (λ e. some_applied w (of_arity a (nth s.store k)) ready.0 ls vs s fine ready.1 (subst (λ n. IsSafeBody w n ready.0.body) (sym e) ready.2) all) all
+fun_fine w ls fine calls (External m f a) vs s ready all = counted_fine w (length vs) a _ _ (λ e. outside_fine w (answered (side w) ls) calls m f vs s all) all
 fun_fine w ls fine calls _ vs s ready all = all
 
 -- ---- proper funs are ready
@@ -155,12 +172,12 @@ proper_local f a (g ∷ gs) p = by (bytes_eq g.0.name f && g.0.arity == a) (λ e
     by false k e = k e
 
 module _ (w : Module) where
-  made_slice : (a : ℕ) (fs : List Function) (k : ℕ) → AreSafeFunctions w fs → is_the_arity (slice_get (arities fs) k) a ≡ true → (g : Function) × (of_arity a (slice_get fs k) ≡ Some g) × IsSafeBody w g.body
+  made_slice : (a : ℕ) (fs : List Function) (k : ℕ) → AreSafeFunctions w fs → is_the_arity (slice_get (arities fs) k) a ≡ true → (g : Function) × (of_arity a (slice_get fs k) ≡ Some g) × IsSafeBody w a g.body
   made_slice a [] k all p = absurd cc
-  made_slice a (f ∷ fs) zero all p = (f, ap (λ t. if t then Some f else None) p, all.0)
+  made_slice a (f ∷ fs) zero all p = (f, ap (λ t. if t then Some f else None) p, subst (λ n. IsSafeBody w n f.body) (same_count f.arity a p) all.0)
   made_slice a (f ∷ fs) (suc k) all p = made_slice a fs k all.1 p
 
-  proper_made : (a : ℕ) (fs : List Function) (k : ℕ) → AreSafeFunctions w fs → is_the_arity (nth (arities fs) k) a ≡ true → (g : Function) × (of_arity a (nth fs k) ≡ Some g) × IsSafeBody w g.body
+  proper_made : (a : ℕ) (fs : List Function) (k : ℕ) → AreSafeFunctions w fs → is_the_arity (nth (arities fs) k) a ≡ true → (g : Function) × (of_arity a (nth fs k) ≡ Some g) × IsSafeBody w a g.body
   proper_made a fs zero all p = absurd cc
   proper_made a fs (suc k) all p = made_slice a fs k all p
 
@@ -245,6 +262,10 @@ module _ (w : Module) where
     chosen_fine ps set None vs b body others e k l = l
     chosen_fine ps set (Some c) vs b body others e k l = weaken_fine w (Binds c set) (Binds b (union (all_names ps) set)) (body c) (λ r p. follows_trans (all_follows w.texts ps (values_of vs) b c e) p) (k c e)
 
+    -- clauses with as many patterns as values
+    wide_fine : (P : (Value × Bindings) → Type 0) (a : ℕ) (s : NameSet) (cs : Clauses) → AreSafeClauses w a s cs → (e : source.Answer) → Fine w P e → Fine w P (if are_wide a cs then e else Wrong)
+    wide_fine P a s cs safe e k = subst (λ t. Fine w P (if t then e else Wrong)) (sym (safe_wide w a s cs safe)) k
+
     -- the names that both bind
     chosen_common : (ps : Trees) (set other : NameSet) (o : Option Bindings) (vs : List Value) (b : Bindings) (body : Bindings → source.Answer) (others : source.Answer) → match_all w.texts ps vs b ≡ o →
         ((c : Bindings) → match_all w.texts ps vs b ≡ Some c → Fine w (Binds c set) (body c)) → Fine w (Binds b other) others → Fine w (Binds b (common (union (all_names ps) set) other)) (chosen o body others)
@@ -282,8 +303,8 @@ module _ (w : Module) where
       shape_fine σ (case_of e cs) ls b s fine all covers is =
           let last = union (sure e) (clauses_sure cs) in
           then_fine w (Binds b (sure e)) (Binds b last) (eval w e ls b s) _ (eval_fine σ e ls b s fine all covers is.0) (λ a t p q.
-          then_fine w (Binds a.1 (clauses_sure cs)) (Binds b last) (pick w cs (a.0 ∷ []) ls a.1 (λ u. u) (λ u. Raises Error (case_clause a.0) u) t) _
-          (pick_fine (union σ (sure e)) cs (a.0 ∷ []) ls a.1 (case_clause a.0) t fine q (covers_union σ (sure e) b a.1 covers p) is.1)
+          then_fine w (Binds a.1 (clauses_sure cs)) (Binds b last) (if are_wide 1 cs then pick w cs (a.0 ∷ []) ls a.1 (λ u. u) (λ u. Raises Error (case_clause a.0) u) t else Wrong) _
+          (wide_fine (Binds a.1 (clauses_sure cs)) 1 (union σ (sure e)) cs is.1 _ (pick_fine 1 (union σ (sure e)) cs (a.0 ∷ []) ls a.1 (case_clause a.0) t fine q (covers_union σ (sure e) b a.1 covers p) is.1))
           (λ r u i z. (follows_trans p (kept_follows (clauses_sure cs) a.1 r.1 i), z)))
 
       all_fine : (σ : NameSet) (es : Trees) (ls : Levels) (b : Bindings) (s : Source) → LevelsFine w ls → AreSafeFunctions w s.store → Covers σ b → AreSafe w σ es → Fine w (BindAll b (all_sure es)) (eval_all w es ls b s)
@@ -299,22 +320,23 @@ module _ (w : Module) where
           (body_fine (union σ (sure e)) (more d es) ls a.1 t fine q (covers_union σ (sure e) b a.1 covers p) (omega arith) is.1))
 
       -- the first clause that matches; where none does, an error
-      pick_fine : (σ : NameSet) (cs : Clauses) (vs : List Value) (ls : Levels) (b : Bindings) (reason : Value) (s : Source) → LevelsFine w ls → AreSafeFunctions w s.store → Covers σ b → AreSafeClauses w σ cs →
+      pick_fine : (a : ℕ) (σ : NameSet) (cs : Clauses) (vs : List Value) (ls : Levels) (b : Bindings) (reason : Value) (s : Source) → LevelsFine w ls → AreSafeFunctions w s.store → Covers σ b → AreSafeClauses w a σ cs →
           Fine w (Binds b (clauses_sure cs)) (pick w cs vs ls b (λ t. t) (λ t. Raises Error reason t) s)
-      pick_fine σ no_clauses vs ls b reason s fine all covers is = all
-      pick_fine σ (clause p ps (or_guard es gs) body cs) vs ls b reason s fine all covers is = absurd cc
-      pick_fine σ (clause p ps no_guard body no_clauses) vs ls b reason s fine all covers is =
+      pick_fine a σ no_clauses vs ls b reason s fine all covers is = all
+      pick_fine a σ (clause p ps (or_guard es gs) body cs) vs ls b reason s fine all covers is = absurd cc
+      pick_fine a σ (clause p ps no_guard body no_clauses) vs ls b reason s fine all covers is =
           chosen_fine ps (all_sure body) (match_all w.texts ps vs b) vs b (λ c. eval_body w body ls c s) (Raises Error reason s) refl
           (λ c e. body_fine (union σ (all_names ps)) body ls c s fine all (covers_union σ (all_names ps) b c covers (all_follows w.texts ps (values_of vs) b c e)) is.1 is.2) all
-      pick_fine σ (clause p ps no_guard body (clause q qs h d cs)) vs ls b reason s fine all covers is =
+      pick_fine a σ (clause p ps no_guard body (clause q qs h d cs)) vs ls b reason s fine all covers is =
           chosen_common ps (all_sure body) (clauses_sure (clause q qs h d cs)) (match_all w.texts ps vs b) vs b (λ c. eval_body w body ls c s) (pick w (clause q qs h d cs) vs ls b (λ t. t) (λ t. Raises Error reason t) s) refl
           (λ c e. body_fine (union σ (all_names ps)) body ls c s fine all (covers_union σ (all_names ps) b c covers (all_follows w.texts ps (values_of vs) b c e)) is.1 is.2)
-          (pick_fine σ (clause q qs h d cs) vs ls b reason s fine all covers is.3)
+          (pick_fine a σ (clause q qs h d cs) vs ls b reason s fine all covers is.3)
 
     -- ---- functions
 
-    run_fine : (ls : Levels) (f : Body) (vs : List Value) (s : Source) → LevelsFine w ls → AreSafeFunctions w s.store → IsSafeBody w f → Fine w Any (run_body w ls f vs s)
-    run_fine ls (by_clauses cs saved) vs s fine all is = then_fine w (Binds saved (clauses_sure cs)) Any (pick w cs vs ls saved (λ t. t) (λ t. Raises Error function_clause t) s) _ (pick_fine is.0 cs vs ls saved function_clause s fine all is.1 is.2) (λ a t p q. (tt, q))
+    run_fine : (ls : Levels) (f : Body) (vs : List Value) (s : Source) → LevelsFine w ls → AreSafeFunctions w s.store → IsSafeBody w (length vs) f → Fine w Any (run_body w ls f vs s)
+    run_fine ls (by_clauses cs saved) vs s fine all is = then_fine w (Binds saved (clauses_sure cs)) Any (if are_wide (length vs) cs then pick w cs vs ls saved (λ t. t) (λ t. Raises Error function_clause t) s else Wrong) _
+        (wide_fine (Binds saved (clauses_sure cs)) (length vs) is.0 cs is.2 _ (pick_fine (length vs) is.0 cs vs ls saved function_clause s fine all is.1 is.2)) (λ a t p q. (tt, q))
     run_fine ls information vs s fine all is = remote_fine ls fine (Atom (codes "erlang")) (Atom (codes "get_module_info")) (Atom w.name ∷ vs) s all
 
     pub levels_fine : (n : ℕ) → LevelsFine w (levels w n)

@@ -1,5 +1,6 @@
 -- Functions by clauses are kept.
-use Rattle.std.proofs.Common.{◌≡◌, ◌<◌, ◌+◌, ℕ, inl, inr, Bool, true, false, if◌then◌else◌, List, [], ◌∷◌, ◌++◌, length, map, Some, refl, sym, ap, ◌∙◌, subst, arith}
+use Rattle.std.proofs.Common.{◌≡◌, ◌<◌, ◌+◌, ◌==◌, ℕ, inl, inr, Bool, true, false, if◌then◌else◌, List, [], ◌∷◌, ◌++◌, length, map, Some, refl, sym, ap, ◌∙◌, subst, arith}
+use Rattle.std.proofs.lemmas.Bool.{and_from}
 use Rattle.std.proofs.lemmas.Bool.Decides.{nat_tests}
 use Rattle.ef_base.specs.declared.name.Name.{Name}
 use Rattle.ef_base.specs.Texts.{Texts, Extends}
@@ -26,8 +27,8 @@ use Rattle.ef_meaning.proofs.Ends.{begins_refl}
 use Rattle.ef_meaning.proofs.CoreLaws as core_laws
 use Rattle.ef_meaning.proofs.Simulate.{keeps_same, const_keeps, map_keeps}
 use Rattle.ef_meaning.proofs.Variables.{value_eval, values_eval}
-use Rattle.ef_meaning.proofs.Bodies.{one_export}
-use Rattle.ef_meaning.proofs.Picks.{clause_taken, pick_append}
+use Rattle.ef_meaning.proofs.Bodies.{clause_keeps, one_export}
+use Rattle.ef_meaning.proofs.Picks.{all_fit, clause_taken, pick_append}
 use Rattle.ef_meaning.proofs.Fails.{value_here}
 
 -- ---- variables that are set
@@ -103,6 +104,20 @@ last_matches all (y ∷ ys) (v ∷ vs) c len =
     let rest = last_matches all ys vs ((y, v) ∷ c) (omega arith) in
     (rest.0, rest.1, (rest.3 y (v, value_here y v c), rest.2), λ x p. rest.3 x (set_more y x v c p))
 
+last_count : (ys : List CoreVar) → core.pat_count (plain.pats (map (λ y. to.pat_var y) ys)) ≡ length ys
+last_count [] = refl
+last_count (y ∷ ys) = let rest = last_count ys in omega arith
+
+last_built : (ys : List CoreVar) → core.are_built (plain.pats (map (λ y. to.pat_var y) ys)) ≡ true
+last_built [] = refl
+last_built (y ∷ ys) = last_built ys
+
+last_fits : (n : ℕ) (ys : List CoreVar) → n ≡ length ys → core.can_match n (plain.pats (map (λ y. to.pat_var y) ys)) ≡ true
+last_fits n ys len =
+    let p : PatTrees = plain.pats (map (λ y. to.pat_var y) ys) in
+    let number : core.pat_count p ≡ n = last_count ys ∙ sym len in
+    and_from (core.pat_count p == n) (core.are_built p) (grind (arith, nat_tests)) (last_built ys)
+
 -- a function by clauses, as one choice over its parameters
 pub function_body_keeps : (now : Texts) (cs : Clauses) (params : List CoreVar) (made : List ClauseTree) (guard : CoreTree) (ys : List CoreVar) (fails : CoreTree) → NoneTwice params → length ys ≡ length params → IsGuard now [] guard → FailsFunction now ys fails →
     KeepsPicks now cs [] [] made → KeepsFunction now (by_clauses cs []) params (function_case params made guard ys fails)
@@ -118,9 +133,13 @@ function_body_keeps now cs params made guard ys fails differ count always failin
       let matched = last_matches cw.texts ys vs c (len ∙ sym count) in
       clause_taken now [] guard always cw later (plain.pats (map (λ y. to.pat_var y) ys)) fails to.no_clauses vs (core.levels cw m) c matched.0 [] (λ x. x) (λ x. Wrong) u true matched.1 refl
       ∙ failing.raises cw later (core.levels cw m) matched.0 [] u matched.2 in
+      let everything = clauses (made ++ last_clause guard ys fails ∷ []) in
+      clause_keeps SameValue (Related cw all en) n (source.are_wide (length vs) cs) _ _ (λ wide.
+      let fits = all_fit (length vs) made (last_clause guard ys fails ∷ []) (k.fits (length vs) wide) (and_from (core.can_match (length vs) (plain.pats (map (λ y. to.pat_var y) ys))) true (last_fits (length vs) ys (len ∙ sym count)) refl) in
       keeps_same SameValue (Related cw all en) n _ (source.value_only (source.pick w cs vs (source.levels w n) [] (λ u. u) (λ u. Raises Error function_clause u) s)) _ Picked refl
       (λ j m. (ap (λ o. core.run_body cw (core.levels cw m) (function_case params made guard ys fails) [] o t) i.1
-      ∙ ap (λ o. and_then o (λ us u. core.pick cw (clauses (made ++ last_clause guard ys fails ∷ [])) us (core.levels cw m) c [] (λ x. x) (λ x. Wrong) u)) (together_eval cw (variables params) vs (core.levels cw m) c [] t i.2)
+      ∙ ap (λ o. and_then o (λ us u. if core.all_can_match (length us) everything then core.pick cw everything us (core.levels cw m) c [] (λ x. x) (λ x. Wrong) u else Wrong)) (together_eval cw (variables params) vs (core.levels cw m) c [] t i.2)
+      ∙ ap (λ b. if b then core.pick cw everything vs (core.levels cw m) c [] (λ x. x) (λ x. Wrong) t else Wrong) fits
       ∙ pick_append cw made (last_clause guard ys fails ∷ []) vs (core.levels cw m) c [] (λ x. x) (λ x. Wrong) t) j)
       (map_keeps (Exports []) SameValue (Related cw all en) n (source.pick w cs vs (source.levels w n) [] (λ u. u) (λ u. Raises Error function_clause u) s) Picked (λ a. a.0)
       (λ j l le. core_laws.pick_extends cw (clauses made) vs (core.levels cw j) (core.levels cw l) c [] (λ u. u) _ _ t (core_laws.levels_below cw j l le) (core_laws.levels_grow cw l) (λ u. begins_refl u.outside.events)
@@ -130,5 +149,5 @@ function_body_keeps now cs params made guard ys fails differ count always failin
       (k.keeps vs [] c (record { each = λ x. tt }) w cw world all inc n calls en [] s t (record { each = λ f g found. refl }) same (λ u. u) (λ u. u) (λ u. Raises Error function_clause u)
       (λ m u. core.pick cw (clauses (last_clause guard ys fails ∷ [])) vs (core.levels cw m) c [] (λ x. x) (λ x. Wrong) u)
       (λ x y q. q)
-      (λ x y q. keeps_same (Exports []) (Related cw all en) n _ (Raises Error function_clause x) _ (λ m. Raises Error function_clause y) refl (λ j m. last m y j) (const_keeps (Exports []) (Related cw all en) n (Raises Error function_clause x) (Raises Error function_clause y) (refl, refl, q)))));
+      (λ x y q. keeps_same (Exports []) (Related cw all en) n _ (Raises Error function_clause x) _ (λ m. Raises Error function_clause y) refl (λ j m. last m y j) (const_keeps (Exports []) (Related cw all en) n (Raises Error function_clause x) (Raises Error function_clause y) (refl, refl, q))))));
 }

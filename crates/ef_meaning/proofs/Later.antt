@@ -51,6 +51,7 @@ module _ (now all : Texts) (later : Extends now all) where
   picks_later cs env sure made k = record {
     entries = k.entries;
     bodies = λ w cw world. k.bodies w cw (world_earlier w cw world);
+    fits = k.fits;
     keeps = λ vs b c desc w cw world. k.keeps vs b c desc w cw (world_earlier w cw world);
   }
 
@@ -66,6 +67,7 @@ module _ (now all : Texts) (later : Extends now all) where
     drawn = k.drawn;
     below = k.below;
     tests_below = k.tests_below;
+    fits = k.fits;
     agree = λ w more. k.agree w (extends_later later more);
     decided = λ w more. k.decided w (extends_later later more);
     keeps = λ w more. k.keeps w (extends_later later more);

@@ -17,6 +17,7 @@ pub mod Functions
 pub mod Renamed
 pub mod Matches
 pub mod CaseKeeps
+pub mod CaseStands
 pub mod Terms
 pub mod Appends
 pub mod Later
@@ -25,6 +26,7 @@ pub mod Covers
 pub mod Fine
 pub mod Meant
 pub mod Kept
+pub mod TwoNumbers
 pub mod RowsHold
 pub mod NamedValue
 pub mod TaggedValue

@@ -1,5 +1,6 @@
 -- Matches are kept: a step whose variables hold what the pattern binds.
-use Rattle.std.proofs.Common.{◌≡◌, ◌+◌, ◌≤◌, ℕ, true, false, List, [], ◌∷◌, ◌++◌, length, map, Option, Some, None, refl, sym, ap, ◌∙◌, subst, arith}
+use Rattle.std.proofs.Common.{if◌then◌else◌, ◌≡◌, ◌+◌, ◌≤◌, ℕ, true, false, List, [], ◌∷◌, ◌++◌, length, map, Option, Some, None, refl, sym, ap, ◌∙◌, subst, arith}
+use Rattle.std.proofs.lemmas.Bool.{and_from}
 use Rattle.ef_base.specs.declared.fault.Place.{Place}
 use Rattle.ef_base.specs.Texts.{Texts, Extends}
 use Rattle.ef_core.specs.declared.env.Bind.{Bind}
@@ -125,8 +126,11 @@ module _ (now : Texts) (q : Place) (p e : Tree) (n0 : ℕ) (env0 : List Bind) (a
 
       -- the step's value, once that of the match is there
       step_run : (m : ℕ) → core.eval_steps cw (steps (match_step ∷ [])) (core.levels cw m) d fs y ≡ Run (core.pick cw (clauses (record { pats = pats; guard = guard; body = chosen_body } ∷ last_clause always (z ∷ []) fails ∷ [])) (v ∷ []) (core.levels cw m) d fs (λ t. t) (λ t. Wrong) y)
-      step_run m = ap (λ o. Run (and_then o (λ vs t. core.pick cw (clauses (record { pats = pats; guard = guard; body = chosen_body } ∷ last_clause always (z ∷ []) fails ∷ [])) vs (core.levels cw m) d fs (λ t. t) (λ t. Wrong) t)))
+      step_run m =
+          let both = clauses (record { pats = pats; guard = guard; body = chosen_body } ∷ last_clause always (z ∷ []) fails ∷ []) in
+          ap (λ o. Run (and_then o (λ vs t. if core.all_can_match (length vs) both then core.pick cw both vs (core.levels cw m) d fs (λ t. t) (λ t. Wrong) t else Wrong)))
           (value_eval cw x v (core.levels cw m) d fs y (subst (λ ts. IsValue ts x v d) (sym world.texts) holds))
+          ∙ ap (λ b. Run (if b then core.pick cw both (v ∷ []) (core.levels cw m) d fs (λ t. t) (λ t. Wrong) y else Wrong)) (and_from (core.can_match 1 pats) true patterns.fits refl)
 
       fails_last : (m : ℕ) → core.pick cw last_clauses (v ∷ []) (core.levels cw m) d fs (λ t. t) (λ t. Wrong) y ≡ Raises Error (badmatch v) y
       fails_last m =

@@ -142,31 +142,35 @@ module _ (all : Texts) where
           let parts = both_empty (faults all e s) (body_faults all es (flat_map (ways e) s)) none in
           (safe_tree e s t within built.0 parts.0, safe_in_turn es (flat_map (ways e) s) (union t (sure e)) (within_ways e s t within) built.1 parts.1)
 
-      safe_clauses : (cs : Clauses) (arity : ℕ) (s : List NameSet) (t : NameSet) → Within s t → AreBuiltClauses all (defined_in m.forms) arity cs → clauses_faults all cs s ≡ [] → AreSafeClauses world t cs
+      safe_clauses : (cs : Clauses) (arity : ℕ) (s : List NameSet) (t : NameSet) → Within s t → AreBuiltClauses all (defined_in m.forms) arity cs → clauses_faults all cs s ≡ [] → AreSafeClauses world arity t cs
       safe_clauses no_clauses arity s t within built none = tt
       safe_clauses (clause p ps (or_guard es gs) body cs) arity s t within built none = absurd built
       safe_clauses (clause p ps no_guard body cs) arity s t within built none =
           let inside = flat_map (bind (all_names ps)) s in
           let parts = both_empty (patterns_faults all ps s) (body_faults all body inside ++ clauses_faults all cs s) none in
           let rest = both_empty (body_faults all body inside) (clauses_faults all cs s) parts.1 in
-          (refl, built.2, safe_in_turn body inside (union t (all_names ps)) (within_bind (all_names ps) s t within) built.3 rest.0, safe_clauses cs arity s t within built.4 rest.1)
+          (refl, built.2, safe_in_turn body inside (union t (all_names ps)) (within_bind (all_names ps) s t within) built.3 rest.0, safe_clauses cs arity s t within built.4 rest.1, built.0)
 
     -- each function of these
     abbrev EachSafe : List (FunctionKey × Function) → Type 0
     EachSafe [] = Unit {0}
-    EachSafe (g ∷ gs) = IsSafeBody world g.1.body × EachSafe gs
+    EachSafe (g ∷ gs) = IsSafeBody world g.0.arity g.1.body × EachSafe gs
 
     each_safe : (fs : List FunctionTree) → Each (IsBuiltFunction all (defined_in m.forms)) fs → Each (IsBoundFunction all) fs → EachSafe (map (defined all) fs ++ (module_info 0 ∷ module_info 1 ∷ []))
     each_safe [] built bound = (tt, (tt, tt))
     each_safe (f ∷ fs) built bound = ((no_names, (λ n e. absurd cc), safe_clauses f.clauses f.arity (no_names ∷ []) no_names (λ n e. absurd cc) built.0.1 bound.0), each_safe fs built.1 bound.1)
 
-    safe_found : (gs : List (FunctionKey × Function)) → EachSafe gs → (f : List ℕ) (a : ℕ) (g : Function) → find f a gs ≡ Some g → IsSafeBody world g.body
+    safe_found : (gs : List (FunctionKey × Function)) → EachSafe gs → (f : List ℕ) (a : ℕ) (g : Function) → find f a gs ≡ Some g → IsSafeBody world a g.body
     safe_found [] safe f a g is = absurd cc
-    safe_found (h ∷ gs) safe f a g is = by (bytes_eq h.0.name f && h.0.arity == a) (λ e. safe_found gs safe.1 f a g e) is
+    safe_found (h ∷ gs) safe f a g is = by (bytes_eq h.0.name f) (h.0.arity == a) refl (λ e. safe_found gs safe.1 f a g e) is
       where
-        by : (t : Bool) → (find f a gs ≡ Some g → IsSafeBody world g.body) → (if t then Some h.1 else find f a gs) ≡ Some g → IsSafeBody world g.body
-        by true k e = let same : h.1 ≡ g = cc in subst (λ (x : Function). IsSafeBody world x.body) same safe.0
-        by false k e = k e
+        by : (s t : Bool) → (h.0.arity == a) ≡ t → (find f a gs ≡ Some g → IsSafeBody world a g.body) → (if s && t then Some h.1 else find f a gs) ≡ Some g → IsSafeBody world a g.body
+        by true true count k e =
+            let same : h.1 ≡ g = cc in
+            let arity : h.0.arity ≡ a = grind (arith, nat_tests) in
+            subst (λ (x : Function). IsSafeBody world a x.body) same (subst (λ n. IsSafeBody world n h.1.body) arity safe.0)
+        by true false count k e = k e
+        by false t count k e = k e
 
     pub safe_module : IsBuilt all m → IsBoundModule all m → IsSafeModule world
     safe_module built bound = record { each = safe_found _ (each_safe (functions_in m.forms) built.bodies bound) }

@@ -66,6 +66,7 @@ module _ (now : Texts) (x : Name) (n : ℕ) (bound : List Bind) (free : held bou
     drawn = omega arith;
     below = below_push n bound x below;
     tests_below = tt;
+    fits = refl;
     agree = λ all later vs c d p. agrees all vs c d p;
     decided = λ all later vs c d h p. (sets all vs c d h p, true, refl);
     keeps = λ all later vs b c desc. matches all vs b c desc;

@@ -1,5 +1,6 @@
 -- Clauses keep the choice, one after another.
 use Rattle.std.proofs.Common.{◌≡◌, ◌≤◌, ◌==◌, ℕ, codes, Bool, true, false, if◌then◌else◌, List, [], ◌∷◌, ◌++◌, length, Option, Some, None, refl, sym, ap, ◌∙◌, subst, append_assoc, append-nil, arith}
+use Rattle.std.proofs.lemmas.Bool.{and_from, and_parts}
 use Rattle.std.proofs.lemmas.Bool.Decides.{nat_tests}
 use Rattle.ef_base.specs.declared.name.Name.{Name}
 use Rattle.ef_base.specs.declared.fault.Place.{Place}
@@ -10,7 +11,7 @@ use Rattle.ef_core.specs.declared.lowered.Test.{Test}
 use Rattle.ef_core.specs.Plain.{ClauseTree, clauses}
 use Rattle.ef_core.specs.Tree as to
 use Rattle.ef_core.specs.Tree.{CoreTree, CoreClauses, PatTrees}
-use Rattle.ef_forms.specs.Tree.{Tree, Trees, Clauses, no_guard, no_clauses, clause}
+use Rattle.ef_forms.specs.Tree.{Tree, Trees, Clauses, no_guard, no_clauses, clause, count}
 use Rattle.ef_forms.specs.Plain.{trees}
 use Rattle.ef_meaning.specs.Value.{Value, Atom, truth}
 use Rattle.ef_meaning.specs.End.{Gives, Wrong}
@@ -31,6 +32,9 @@ use Rattle.ef_meaning.proofs.Parts.{includes_left, includes_right, bodies_both}
 
 same_number : (n : ℕ) → (n == n) ≡ true
 same_number n = grind (arith, nat_tests)
+
+counts_alike : (m n : ℕ) → (m == n) ≡ true → m ≡ n
+counts_alike m n e = grind (arith, nat_tests)
 
 unchanged_same : (s : Target) → core.unchanged s s ≡ true
 unchanged_same s = rw (same_number (length s.outside.events), same_number (length s.outside.items), same_number (length s.store.made)) refl
@@ -76,12 +80,21 @@ pick_append w [] ys vs ls c fs took others t = refl
 pick_append w (x ∷ xs) ys vs ls c fs took others t =
     λ i. core.chosen (core.match_all w.texts x.pats vs c) (λ d. core.guarded t (core.eval w x.guard ls d fs t) (λ u. core.eval w x.body ls d fs (took u)) (λ u. pick_append w xs ys vs ls c fs took others u i)) (pick_append w xs ys vs ls c fs took others t i)
 
+-- ---- clauses that can match
+
+pub all_fit : (n : ℕ) (xs ys : List ClauseTree) → core.all_can_match n (clauses xs) ≡ true → core.all_can_match n (clauses ys) ≡ true → core.all_can_match n (clauses (xs ++ ys)) ≡ true
+all_fit n [] ys p q = q
+all_fit n (x ∷ xs) ys p q =
+    let parts = and_parts (core.can_match n x.pats) (core.all_can_match n (clauses xs)) p in
+    and_from (core.can_match n x.pats) (core.all_can_match n (clauses (xs ++ ys))) parts.0 (all_fit n xs ys parts.1 q)
+
 -- ---- what is kept
 
 pub picks_none : (now : Texts) (env : List Bind) (sure : List Name) → KeepsPicks now no_clauses env sure []
 picks_none now env sure = record {
   entries = [];
   bodies = λ w cw world all inc n calls. tt;
+  fits = λ n wide. refl;
   keeps = λ vs b c desc w cw world all inc n calls en fs s t hides same took took_core others others_core goes kept. kept s t same;
 }
 
@@ -120,10 +133,17 @@ module _ (now : Texts) (q : Place) (ps : Trees) (es : List Tree) (n0 : ℕ) (env
         (λ i m. clause_taken now tests guard is cw later pats body (clauses made) vs (core.levels cw m) c d fs took_core (others_core m) t true match p.0 i)
         (this.keeps g d p.1 w cw world all inc n calls en fs (took s) (took_core t) hides moved)
 
+  clause_fits : (n : ℕ) → source.are_wide n (clause q ps no_guard (trees es) cs) ≡ true → core.all_can_match n (clauses (first ∷ made)) ≡ true
+  clause_fits n wide =
+      let parts = and_parts (count ps == n) (source.are_wide n cs) wide in
+      let number : count ps ≡ n = counts_alike (count ps) n parts.0 in
+      and_from (core.can_match n pats) (core.all_can_match n (clauses made)) (subst (λ m. core.can_match m pats ≡ true) number patterns.fits) (rest.fits n parts.1)
+
   pub picks_clause : KeepsPicks now (clause q ps no_guard (trees es) cs) env sure (first ∷ made)
   picks_clause = record {
     entries = this.made ++ rest.entries;
     bodies = bodies_both now this.made rest.entries this.bodies rest.bodies;
+    fits = clause_fits;
     keeps = λ vs b c desc w cw world all inc n calls en fs s t hides same took took_core others others_core goes kept.
         chosen_keeps vs c w cw world all (includes_left this.made rest.entries all inc) n calls en fs s t hides took took_core others_core (goes s t same)
         (source.pick w cs vs (source.levels w n) b took others s)

@@ -1,5 +1,5 @@
 -- Parts that keep the meaning, one after another.
-use Rattle.std.proofs.Common.{◌≡◌, ℕ, suc, ◌≤◌, List, refl, sym, ap, subst, max, arith}
+use Rattle.std.proofs.Common.{◌≡◌, ℕ, suc, ◌≤◌, Bool, true, false, if◌then◌else◌, List, refl, sym, ap, subst, max, arith}
 use Rattle.ef_meaning.specs.Value.{Value}
 use Rattle.ef_meaning.specs.Exception.{Class}
 use Rattle.ef_meaning.specs.Outside.{Event, State}
@@ -53,6 +53,11 @@ module _ {A B F G : Type 0} (R : A → B → Type 0) (Q : State F → State G �
 
   pub wrong_keeps : (n : ℕ) (C : ℕ → End B (State G)) → Keeps R Q n Wrong C
   wrong_keeps n C = record { reached = (0, tt); equal = wrong_equals (C n) }
+
+  -- nothing is asked where the test fails
+  pub when_keeps : (n : ℕ) (t : Bool) (e : End A (State F)) (C : ℕ → End B (State G)) → (t ≡ true → Keeps R Q n e C) → Keeps R Q n (if t then e else Wrong) C
+  when_keeps n true e C k = k refl
+  when_keeps n false e C k = wrong_keeps n C
 
   const_reached : (e : End A (State F)) (f : End B (State G)) → SameEnd R Q e f → Reached R Q e (λ m. f)
   const_reached (Gives a s) f p = (0, p)

@@ -1,16 +1,16 @@
 -- The source: events only grow, and a larger bound keeps an end and extends the events of what goes on.
-use Rattle.std.proofs.Common.{ℕ, zero, suc, ◌≤◌, codes, List, [], ◌∷◌, Option, Some, None, refl, arith}
+use Rattle.std.proofs.Common.{ℕ, zero, suc, ◌≤◌, if◌then◌else◌, codes, List, [], ◌∷◌, length, Option, Some, None, refl, arith}
 use Rattle.ef_base.specs.Texts.{text}
 use Rattle.ef_meaning.specs.Lookup.{find}
 use Rattle.ef_forms.specs.Tree.{Tree, Shape, Trees, Guards, Clauses, tree, int, atom, var, any, list, list_to, tuple, matching, call, remote, case_of, end, more, no_guard, or_guard, no_clauses, clause, count}
 use Rattle.ef_meaning.specs.Value.{Value, Atom}
 use Rattle.ef_meaning.specs.Exception.{Error, function_clause, case_clause}
-use Rattle.ef_meaning.specs.End.{End, Raises}
+use Rattle.ef_meaning.specs.End.{End, Raises, Wrong}
 use Rattle.ef_meaning.specs.Called.{apply}
 use Rattle.ef_meaning.specs.Keeps.{Ahead, Extends}
 use Rattle.ef_meaning.specs.Match.{Bindings, value_of, matches, match_all}
-use Rattle.ef_meaning.specs.Source.{Function, Body, by_clauses, information, Source, Answer, Levels, Module, applied, function_of, side, named, matched, target, beside, chosen, guarded, eval, eval_shape, eval_target, eval_all, eval_body, pick, run_body, levels, source}
-use Rattle.ef_meaning.proofs.Ends.{OnlyAdds, begins_refl, ahead_trans, extends_refl, then_ahead, then_extends}
+use Rattle.ef_meaning.specs.Source.{Function, Body, by_clauses, information, Source, Answer, Levels, Module, applied, function_of, side, named, matched, target, beside, chosen, are_wide, guarded, eval, eval_shape, eval_target, eval_all, eval_body, pick, run_body, levels, source}
+use Rattle.ef_meaning.proofs.Ends.{OnlyAdds, begins_refl, ahead_trans, extends_refl, if_ahead, if_extends, then_ahead, then_extends}
 use Rattle.ef_meaning.proofs.CalledLaws.{SideGrows, SideBelow, apply_ahead, apply_extends, remote_ahead, remote_extends}
 
 -- ---- events only grow
@@ -70,8 +70,8 @@ module _ (w : Module) where
     shape_ahead (remote m f es) ls b s g = then_ahead _ (eval w m ls b s) _ (eval_ahead m ls b s g) (λ h t. then_ahead _ (eval w f ls h.1 t) _ (eval_ahead f ls h.1 t g) (λ k u.
         then_ahead _ (eval_all w es ls k.1 u) _ (all_ahead es ls k.1 u g) (λ a x. beside_ahead a.1 _ x (remote_ahead (side w) ls h.0 k.0 a.0 x (side_grows w ls g)))))
     shape_ahead (case_of e cs) ls b s g = then_ahead _ (eval w e ls b s) _ (eval_ahead e ls b s g) (λ a t.
-        then_ahead _ (pick w cs (a.0 ∷ []) ls a.1 (λ u. u) (λ u. Raises Error (case_clause a.0) u) t) _
-        (pick_ahead cs (a.0 ∷ []) ls a.1 (λ u. u) (λ u. Raises Error (case_clause a.0) u) t g (λ u. begins_refl u.outside.events) (λ u. begins_refl u.outside.events)) (λ r u. begins_refl u.outside.events))
+        then_ahead _ (if are_wide 1 cs then pick w cs (a.0 ∷ []) ls a.1 (λ u. u) (λ u. Raises Error (case_clause a.0) u) t else Wrong) _
+        (if_ahead _ (are_wide 1 cs) _ _ (pick_ahead cs (a.0 ∷ []) ls a.1 (λ u. u) (λ u. Raises Error (case_clause a.0) u) t g (λ u. begins_refl u.outside.events) (λ u. begins_refl u.outside.events)) tt) (λ r u. begins_refl u.outside.events))
 
     target_ahead : (e : Tree) (arity : ℕ) (ls : Levels) (b : Bindings) (s : Source) → Grow ls → Ahead s.outside.events (eval_target w e arity ls b s)
     target_ahead (tree p (atom n)) arity ls b s g = found_ahead (find (text w.texts n) arity w.functions) (text w.texts n) arity b s
@@ -93,11 +93,12 @@ module _ (w : Module) where
         (λ c. guarded_ahead h (eval_body w body ls c (took s)) s (ahead_trans _ _ (eval_body w body ls c (took s)) (p s) (body_ahead body ls c (took s) g))) (pick_ahead cs vs ls b took others s g p q)
 
   -- the clauses of a `case`
-  pub case_ahead : (cs : Clauses) (v : Value) (ls : Levels) (b : Bindings) (s : Source) → Grow ls → Ahead s.outside.events (pick w cs (v ∷ []) ls b (λ u. u) (λ u. Raises Error (case_clause v) u) s)
-  case_ahead cs v ls b s g = pick_ahead cs (v ∷ []) ls b (λ u. u) (λ u. Raises Error (case_clause v) u) s g (λ t. begins_refl t.outside.events) (λ t. begins_refl t.outside.events)
+  pub case_ahead : (cs : Clauses) (v : Value) (ls : Levels) (b : Bindings) (s : Source) → Grow ls → Ahead s.outside.events (if are_wide 1 cs then pick w cs (v ∷ []) ls b (λ u. u) (λ u. Raises Error (case_clause v) u) s else Wrong)
+  case_ahead cs v ls b s g = if_ahead _ (are_wide 1 cs) _ _ (pick_ahead cs (v ∷ []) ls b (λ u. u) (λ u. Raises Error (case_clause v) u) s g (λ t. begins_refl t.outside.events) (λ t. begins_refl t.outside.events)) tt
 
   run_ahead : (ls : Levels) (f : Body) (vs : List Value) (s : Source) → Grow ls → Ahead s.outside.events (run_body w ls f vs s)
-  run_ahead ls (by_clauses cs saved) vs s g = then_ahead _ (pick w cs vs ls saved (λ t. t) (λ t. Raises Error function_clause t) s) _ (pick_ahead cs vs ls saved (λ t. t) (λ t. Raises Error function_clause t) s g (λ t. begins_refl t.outside.events) (λ t. begins_refl t.outside.events)) (λ a t. begins_refl t.outside.events)
+  run_ahead ls (by_clauses cs saved) vs s g = then_ahead _ (if are_wide (length vs) cs then pick w cs vs ls saved (λ t. t) (λ t. Raises Error function_clause t) s else Wrong) _
+      (if_ahead _ (are_wide (length vs) cs) _ _ (pick_ahead cs vs ls saved (λ t. t) (λ t. Raises Error function_clause t) s g (λ t. begins_refl t.outside.events) (λ t. begins_refl t.outside.events)) tt) (λ a t. begins_refl t.outside.events)
   run_ahead ls information vs s g = remote_ahead (side w) ls (Atom (codes "erlang")) (Atom (codes "get_module_info")) (Atom w.name ∷ vs) s (side_grows w ls g)
 
   pub levels_grow : (n : ℕ) → Grow (levels w n)
@@ -159,9 +160,9 @@ module _ (w : Module) where
         (λ a u. beside_ahead a.1 _ u (apply_ahead (side w) ks (side_grows w ks g) h.0 a.0 u)))
         (λ h t. then_ahead _ (eval_all w es ks h.1 t) _ (all_ahead w es ks h.1 t g) (λ a u. beside_ahead a.1 _ u (apply_ahead (side w) ks (side_grows w ks g) h.0 a.0 u)))
     shape_extends (case_of e cs) ls ks b s p g = then_extends (eval w e ls b s) (eval w e ks b s) _ _ (eval_extends e ls ks b s p g)
-        (λ a t. then_extends (pick w cs (a.0 ∷ []) ls a.1 (λ u. u) (λ u. Raises Error (case_clause a.0) u) t) (pick w cs (a.0 ∷ []) ks a.1 (λ u. u) (λ u. Raises Error (case_clause a.0) u) t) _ _
-        (pick_extends cs (a.0 ∷ []) ls ks a.1 (λ u. u) (λ u. Raises Error (case_clause a.0) u) (λ u. Raises Error (case_clause a.0) u) t p g (λ u. refl)) (λ r u. refl) (λ r u. begins_refl u.outside.events))
-        (λ a t. then_ahead _ (pick w cs (a.0 ∷ []) ks a.1 (λ u. u) (λ u. Raises Error (case_clause a.0) u) t) _ (case_ahead w cs a.0 ks a.1 t g) (λ r u. begins_refl u.outside.events))
+        (λ a t. then_extends (if are_wide 1 cs then pick w cs (a.0 ∷ []) ls a.1 (λ u. u) (λ u. Raises Error (case_clause a.0) u) t else Wrong) (if are_wide 1 cs then pick w cs (a.0 ∷ []) ks a.1 (λ u. u) (λ u. Raises Error (case_clause a.0) u) t else Wrong) _ _
+        (if_extends (are_wide 1 cs) _ _ _ _ (pick_extends cs (a.0 ∷ []) ls ks a.1 (λ u. u) (λ u. Raises Error (case_clause a.0) u) (λ u. Raises Error (case_clause a.0) u) t p g (λ u. refl)) refl) (λ r u. refl) (λ r u. begins_refl u.outside.events))
+        (λ a t. then_ahead _ (if are_wide 1 cs then pick w cs (a.0 ∷ []) ks a.1 (λ u. u) (λ u. Raises Error (case_clause a.0) u) t else Wrong) _ (case_ahead w cs a.0 ks a.1 t g) (λ r u. begins_refl u.outside.events))
     shape_extends (remote m f es) ls ks b s p g =
         let last = λ (h i : Value × Bindings) (u : Source). then_ahead _ (eval_all w es ks i.1 u) _ (all_ahead w es ks i.1 u g) (λ a x. beside_ahead a.1 _ x (remote_ahead (side w) ks h.0 i.0 a.0 x (side_grows w ks g))) in
         then_extends (eval w m ls b s) (eval w m ks b s) _ _ (eval_extends m ls ks b s p g)
@@ -195,7 +196,7 @@ module _ (w : Module) where
         (λ c. guarded_extends h (eval_body w body ls c (took s)) (eval_body w body ks c (took s)) (body_extends body ls ks c (took s) p g)) (pick_extends cs vs ls ks b took others rest s p g q)
 
   run_extends : (ls ks : Levels) (f : Body) (vs : List Value) (s : Source) → Below ls ks → Grow ks → Extends (run_body w ls f vs s) (run_body w ks f vs s)
-  run_extends ls ks (by_clauses cs saved) vs s p g = then_extends _ _ _ _ (pick_extends cs vs ls ks saved (λ t. t) (λ t. Raises Error function_clause t) (λ t. Raises Error function_clause t) s p g (λ t. refl)) (λ a t. refl) (λ a t. begins_refl t.outside.events)
+  run_extends ls ks (by_clauses cs saved) vs s p g = then_extends _ _ _ _ (if_extends (are_wide (length vs) cs) _ _ _ _ (pick_extends cs vs ls ks saved (λ t. t) (λ t. Raises Error function_clause t) (λ t. Raises Error function_clause t) s p g (λ t. refl)) refl) (λ a t. refl) (λ a t. begins_refl t.outside.events)
   run_extends ls ks information vs s p g = remote_extends (side w) ls ks (Atom (codes "erlang")) (Atom (codes "get_module_info")) (Atom w.name ∷ vs) s (side_below w ls ks p g) (side_grows w ks g)
 
   levels_below : (m n : ℕ) → m ≤ n → Below (levels w m) (levels w n)

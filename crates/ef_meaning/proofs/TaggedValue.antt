@@ -106,6 +106,7 @@ module _ (now : Texts) (word x : Name) (n : ℕ) (bound : List Bind) (free : hel
     drawn = omega arith;
     below = below_push n bound x below;
     tests_below = tt;
+    fits = refl;
     agree = λ all later vs c d p. let one = only_one all vs c d p in subst (Agree n c) one.1 (agree_more n n c c one.0 (omega arith) (agree_refl n c));
     decided = λ all later vs c d h p. let one = only_one all vs c d p in (subst (HaveValues env) one.1 (set_last now x n bound free below bound one.0 c h), true, refl);
     keeps = λ all later vs g c desc. matches all vs g c desc;

@@ -1,5 +1,5 @@
 -- What an expression of Core means (Core Erlang 1.0.3, "Static semantics" and "Dynamic semantics").
-use Rattle.std.specs.Prelude.{ℕ, zero, suc, Bool, false, ◌&&◌, ◌==◌, if◌then◌else◌, codes, bytes_eq, List, [], ◌∷◌, map, length, Option, Some, None}
+use Rattle.std.specs.Prelude.{ℕ, zero, suc, ◌+◌, Bool, true, false, ◌&&◌, ◌==◌, if◌then◌else◌, codes, bytes_eq, List, [], ◌∷◌, map, length, Option, Some, None}
 use Rattle.ef_base.specs.Texts.{Texts, text}
 use Rattle.ef_core.specs.declared.literal.CoreVar.{CoreVar}
 use Rattle.ef_core.specs.declared.literal.CoreVar.TheVariants.{Numbered, Named}
@@ -125,7 +125,7 @@ compared u v c = if same_value u v then Some c else None
 
 module _ (all : Texts) where
   abbrev mutual
-    -- whether a value matches a pattern, and the variables that result; binaries are not built yet
+    -- whether a value matches a pattern, and the variables that result
     pub matches : PatTree → Value → Vars → Option Vars
     matches (pat_var x) v c = Some ((x, v) ∷ c)
     matches (pat_lit l) v c = compared (literal all l) v c
@@ -148,6 +148,34 @@ module _ (all : Texts) where
 
   abbrev pub match_all : PatTrees → List Value → Vars → Option Vars
   match_all ps vs c = match_values ps (values_of vs) c
+
+-- patterns without binaries, which are not built yet
+abbrev mutual
+  pub is_built : PatTree → Bool
+  is_built (pat_var x) = true
+  is_built (pat_lit l) = true
+  is_built (pat_tuple ps) = are_built ps
+  is_built (pat_list ps) = are_built ps
+  is_built (pat_list_to ps p) = are_built ps && is_built p
+  is_built (alias x p) = is_built p
+  is_built (pat_bin ss) = false
+
+  pub are_built : PatTrees → Bool
+  are_built no_pats = true
+  are_built (more_pats p ps) = is_built p && are_built ps
+
+abbrev pub pat_count : PatTrees → ℕ
+pat_count no_pats = 0
+pat_count (more_pats p ps) = 1 + pat_count ps
+
+-- patterns of so many values
+abbrev pub can_match : ℕ → PatTrees → Bool
+can_match n ps = pat_count ps == n && are_built ps
+
+-- Core takes no clauses with other patterns
+abbrev pub all_can_match : ℕ → CoreClauses → Bool
+all_can_match n no_clauses = true
+all_can_match n (clause ps g e cs) = can_match n ps && all_can_match n cs
 
 -- ---- guards
 
@@ -220,8 +248,8 @@ module _ (w : CoreModule) where
     eval (list es) ls c fs s = and_then (eval_all es ls c fs s) (λ vs t. Gives (list_value vs ∷ []) t)
     eval (list_to es e) ls c fs s = and_then (eval_all es ls c fs s) (λ vs t. and_then (and_then (eval e ls c fs t) single) (λ v u. Gives (list_onto vs v ∷ []) u))
     eval (lets ss e) ls c fs s = and_then (eval_steps ss ls c fs s) (λ d t. eval e ls d fs t)
-    -- some clause is chosen
-    eval (case_of e cs) ls c fs s = and_then (eval e ls c fs s) (λ vs t. pick cs vs ls c fs (λ u. u) (λ u. Wrong) t)
+    -- each clause can match, and some clause is chosen
+    eval (case_of e cs) ls c fs s = and_then (eval e ls c fs s) (λ vs t. if all_can_match (length vs) cs then pick cs vs ls c fs (λ u. u) (λ u. Wrong) t else Wrong)
     eval (tree.apply f es) ls c fs s = and_then (and_then (eval f ls c fs s) single) (λ g t.
         and_then (eval_all es ls c fs t) (λ vs u. one_value (apply (side w) ls g vs u)))
     eval (call m f es) ls c fs s = and_then (and_then (eval m ls c fs s) single) (λ g t. and_then (and_then (eval f ls c fs t) single) (λ h u.

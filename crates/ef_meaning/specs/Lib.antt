@@ -23,3 +23,4 @@ pub mod Examples
 pub mod Matching
 pub mod Branching
 pub mod Rows
+pub mod Refused

@@ -10,7 +10,7 @@ use Rattle.ef_forms.specs.Tree as t
 use Rattle.ef_forms.specs.Tree.{Tree, Clauses, ModuleTree, no_guard, clause, no_clauses}
 use Rattle.ef_forms.specs.Plain.{trees}
 use Rattle.ef_meaning.specs.Cases.{together, last_clause}
-use Rattle.ef_meaning.specs.Examples.{f_name, g_name, h_name, x_name, y_name, big_z_name, t_name, big_a_name, b_name, z_name, m_name, true_name, erlang_name, equal_name, match_fail_name, function_clause_name, badmatch_name, here, at, var, atom, call, remote, core_var, core_atom, core_call, step, core_function, core_with}
+use Rattle.ef_meaning.specs.Examples.{f_name, g_name, h_name, a_name, little_b_name, x_name, y_name, big_z_name, t_name, big_a_name, b_name, z_name, m_name, true_name, erlang_name, equal_name, match_fail_name, function_clause_name, badmatch_name, here, at, var, atom, call, remote, core_var, core_atom, core_call, step, core_function, core_with}
 
 -- ---- the source
 
@@ -120,6 +120,20 @@ core_named_value = core_with named_value_defs
 abbrev pub core_same_twice : CoreModuleTree
 core_same_twice = core_with (core_function f_name 1 (Numbered 0 ∷ [])
     (core_case (core_var 0) (core_clause (c.pat_tuple (plain.pats (pat 1 ∷ pat 2 ∷ [])) ∷ []) (are_equal 2 1) (core_var 1) ∷ core_last function_clause_name 3 4 ∷ [])) ∷ [])
+
+abbrev pub core_bound_beside : CoreModuleTree
+core_bound_beside = core_with (core_function f_name 0 []
+    (c.lets (plain.steps (step 0 (c.lit (c.int (pos 1)))
+    ∷ record { vars = []; value = core_case (c.lit (c.int (pos 2))) (core_clause (pat 1 ∷ []) (are_equal 1 0) (together []) ∷ core_last badmatch_name 2 3 ∷ []) } ∷ []))
+    (c.tuple (plain.trees (core_var 0 ∷ c.lit (c.int (pos 2)) ∷ [])))) ∷ [])
+
+-- f() -> {g:a(), g:b()}.
+abbrev pub two_answers : ModuleTree
+two_answers = function_module 0 (where_matches [] (tuple (remote g_name a_name [] ∷ remote g_name little_b_name [] ∷ []) ∷ []) no_clauses)
+
+abbrev pub core_two_answers : CoreModuleTree
+core_two_answers = core_with (core_function f_name 0 []
+    (c.lets (plain.steps (step 0 (core_call g_name a_name []) ∷ step 1 (core_call g_name little_b_name []) ∷ [])) (c.tuple (plain.trees (core_var 0 ∷ core_var 1 ∷ [])))) ∷ [])
 
 abbrev pub core_bound_before : CoreModuleTree
 core_bound_before = core_with (core_function f_name 1 (Numbered 0 ∷ [])

@@ -6,7 +6,7 @@ use Rattle.ef_core.specs.declared.env.Bind.{Bind}
 use Rattle.ef_core.specs.declared.lowered.Test.{Test}
 use Rattle.ef_core.specs.Plain.{ClauseTree, clauses}
 use Rattle.ef_core.specs.Tree.{CoreTree, PatTrees}
-use Rattle.ef_forms.specs.Tree.{Trees, Clauses}
+use Rattle.ef_forms.specs.Tree.{Trees, Clauses, count}
 use Rattle.ef_meaning.specs.Value.{Value, truth}
 use Rattle.ef_meaning.specs.Same.{same_value}
 use Rattle.ef_meaning.specs.End.{Gives}
@@ -57,11 +57,13 @@ SameMatch env tests None (Some d) = verdict tests d ≡ Some false
 SameMatch env tests (Some b) None = ⊥
 SameMatch env tests (Some b) (Some d) = (verdict tests d ≡ Some true) × Describes env b d
 
--- Core patterns and tests keep the matching of patterns, under names that are bound; they bind more
+-- Core patterns, which can match as many values, and tests keep the matching of patterns, under names that are bound; they
+-- bind more
 pub record KeepsPatterns (now : Texts) (ps : Trees) (n0 : ℕ) (bound : List Bind) (made : PatTrees) (tests : List Test) (n1 : ℕ) (binds : List Bind) : Type 0 where
   pub drawn : n0 ≤ n1
   pub below : AreBelow n1 (bound ++ binds)
   pub tests_below : TestsBelow n1 tests
+  pub fits : core.can_match (count ps) made ≡ true
   pub agree : (all : Texts) → Extends now all → (vs : List Value) (c d : Vars) → core.match_all all made vs c ≡ Some d → Agree n0 c d
   pub decided : (all : Texts) → Extends now all → (vs : List Value) (c d : Vars) → HaveValues bound c → core.match_all all made vs c ≡ Some d →
       HaveValues (bound ++ binds) d × (b : Bool) × (verdict tests d ≡ Some b)
@@ -70,11 +72,12 @@ pub record KeepsPatterns (now : Texts) (ps : Trees) (n0 : ℕ) (bound : List Bin
 
 -- ---- clauses
 
--- Core clauses keep the choice among source clauses, whatever a choice does to the states, and whatever is done where
--- none is chosen, where this is kept
+-- Core clauses, which can match as many values, keep the choice among source clauses, whatever a choice does to the
+-- states, and whatever is done where none is chosen, where this is kept
 pub record KeepsPicks (now : Texts) (cs : Clauses) (env : List Bind) (sure : List Name) (made : List ClauseTree) : Type 0 where
   pub entries : List Entry
   pub bodies : Bodies now entries
+  pub fits : (n : ℕ) → source.are_wide n cs ≡ true → core.all_can_match n (clauses made) ≡ true
   pub keeps : (vs : List Value) (b : Bindings) (c : Vars) → Describes env b c → InWorlds now entries (λ w cw Q n fs s t.
       (took : source.Source → source.Source) (took_core : Target → Target) (others : source.Source → source.Answer) (others_core : ℕ → Target → core.Answer) →
       ((x : source.Source) (y : Target) → Q x y → Q (took x) (took_core y)) →

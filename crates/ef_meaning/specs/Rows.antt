@@ -8,7 +8,7 @@ use Rattle.ef_meaning.specs.Outside.{Item, Answer, Raise, Arrive, TimeUp, CallBa
 use Rattle.ef_meaning.specs.End.{End, Gives, Raises, Waits, More}
 use Rattle.ef_meaning.specs.Runs.{Run, Shown, shown, source_run, core_run, KeepsMeaning}
 use Rattle.ef_meaning.specs.Examples.{table, identity, core_identity, two_calls, core_two_calls, dropped_value, core_dropped_value, endless, core_endless, ordered, core_ordered, outside_call, core_outside_call}
-use Rattle.ef_meaning.specs.Matching.{first_pair, across, taken_apart, named_value, core_named_value, same_twice, core_same_twice, bound_before, core_bound_before, bound_beside}
+use Rattle.ef_meaning.specs.Matching.{first_pair, across, taken_apart, named_value, core_named_value, same_twice, core_same_twice, bound_before, core_bound_before, bound_beside, core_bound_beside, two_answers, core_two_answers}
 use Rattle.ef_meaning.specs.Branching.{unwrapped, core_unwrapped, tagged_value, core_tagged_value, nested_case, core_nested_case, bound_inside, core_bound_inside, same_answer, core_same_answer}
 
 abbrev number : ℕ → Value
@@ -17,6 +17,10 @@ number n = Integer (pos n)
 -- f/1 on a value, with these items
 abbrev pub on : Value → List Item → Run
 on v is = record { name = codes "f"; arguments = v ∷ []; own = 0; items = is }
+
+-- f/0
+abbrev pub on_nothing : List Item → Run
+on_nothing is = record { name = codes "f"; arguments = []; own = 0; items = is }
 
 abbrev pub seen : List Event → Shown
 seen es = record { events = es; mailbox = [] }
@@ -45,9 +49,11 @@ pub record Rows : Type 0 where
   pub dropped : BothShow dropped_value core_dropped_value (on (number 5) (Answer (number 1) ∷ [])) 5 (Gives (number 5) (seen (called_h 5 ∷ [])))
   -- at every bound it goes on, and shows nothing
   pub goes_on : (v : Value) (n : ℕ) → BothShow endless core_endless (on v []) n (More (seen []))
-  -- arguments are evaluated from left to right, and before the call
+  -- arguments are evaluated from left to right, and before the call; so are the items of a tuple
   pub left_to_right : BothShow ordered core_ordered (on (number 5) (Answer (number 1) ∷ Answer (number 2) ∷ Answer (number 3) ∷ [])) 5
       (Gives (number 3) (seen (Called (codes "i") (codes "j") [] ∷ Called (codes "l") (codes "m") [] ∷ Called (codes "g") (codes "h") (number 5 ∷ number 1 ∷ number 2 ∷ []) ∷ [])))
+  pub items_left_to_right : BothShow two_answers core_two_answers (on_nothing (Answer (number 1) ∷ Answer (number 2) ∷ [])) 5
+      (Gives (pair_value (number 1) (number 2)) (seen (Called (codes "g") (codes "a") [] ∷ Called (codes "g") (codes "b") [] ∷ [])))
   -- an answer that holds a fun which was not made is passed over, and so is the end of a time
   pub passed_over : BothShow outside_call core_outside_call (on (number 5) (Answer (Made 1 0) ∷ TimeUp ∷ Answer (number 2) ∷ [])) 5 (Gives (number 2) (seen (called_h 5 ∷ [])))
   -- a message that arrives in a call stands in the mailbox afterwards
@@ -86,7 +92,7 @@ pub record MatchRows : Type 0 where
   -- a name that is bound before, or by an element before, compares
   pub compared_before : BothShow bound_before core_bound_before (on (number 2) []) 5 (Raises Error (badmatch (number 1)) (seen []))
   pub bound_the_same : BothShow bound_before core_bound_before (on (number 1) []) 5 (Gives (pair_value (number 1) (number 1)) (seen []))
-  pub compared_beside : SourceShows bound_beside (record { name = codes "f"; arguments = []; own = 0; items = [] }) 5 (Raises Error (badmatch (number 2)) (seen []))
+  pub compared_beside : BothShow bound_beside core_bound_beside (on_nothing []) 5 (Raises Error (badmatch (number 2)) (seen []))
   -- Core compares by a call that shows nothing
   pub equal_twice : BothShow same_twice core_same_twice (on (pair_value (number 1) (number 1)) []) 5 (Gives (number 1) (seen []))
   pub other_twice : BothShow same_twice core_same_twice (on (pair_value (number 1) (number 2)) []) 5 (Raises Error function_clause (seen []))

@@ -1,5 +1,5 @@
 -- What an expression of the source means (Erlang Reference Manual, "Expressions" and "Function Declaration Syntax").
-use Rattle.std.specs.Prelude.{ℕ, zero, suc, ◌==◌, if◌then◌else◌, codes, List, [], ◌∷◌, ◌++◌, map, filter, Option, Some, None}
+use Rattle.std.specs.Prelude.{ℕ, zero, suc, Bool, true, ◌&&◌, ◌==◌, if◌then◌else◌, codes, List, [], ◌∷◌, ◌++◌, length, map, filter, Option, Some, None}
 use Rattle.ef_base.specs.Texts.{Texts, text}
 use Rattle.ef_forms.specs.Tree.{Tree, Shape, Trees, Guards, Clauses, FunctionTree, ModuleTree, tree, int, atom, var, any, list, list_to, tuple, matching, call, remote, case_of, end, more, no_guard, or_guard, no_clauses, clause, count}
 use Rattle.ef_forms.specs.Built.{functions_in}
@@ -104,6 +104,11 @@ chosen (Some b) body others = body b
 abbrev pub kept : NameSet → Bindings → Bindings → Bindings
 kept set inside before = before ++ filter (λ b. set b.0.index) inside
 
+-- each clause has so many patterns; another number is a fault
+abbrev pub are_wide : ℕ → Clauses → Bool
+are_wide n no_clauses = true
+are_wide n (clause p ps g body cs) = count ps == n && are_wide n cs
+
 -- without a guard the body; guards are not built yet
 abbrev pub guarded : Guards → Answer → Answer
 guarded no_guard body = body
@@ -133,7 +138,7 @@ module _ (w : Module) where
         and_then (eval_all es ls h.1 u) (λ a x. beside a.1 (called.remote (side w) ls g.0 h.0 a.0 x))))
     -- the value, then the first clause that matches; the names that every clause binds are kept
     eval_shape (case_of e cs) ls b s = and_then (eval e ls b s) (λ a t.
-        and_then (pick cs (a.0 ∷ []) ls a.1 (λ u. u) (λ u. Raises Error (case_clause a.0) u) t) (λ r u. Gives (r.0, kept (clauses_sure cs) r.1 a.1) u))
+        and_then (if are_wide 1 cs then pick cs (a.0 ∷ []) ls a.1 (λ u. u) (λ u. Raises Error (case_clause a.0) u) t else Wrong) (λ r u. Gives (r.0, kept (clauses_sure cs) r.1 a.1) u))
 
     -- what is called, with so many arguments
     pub eval_target : Tree → ℕ → Levels → Bindings → Source → Answer
@@ -163,7 +168,7 @@ value_only e = and_then e (λ a t. Gives a.0 t)
 
 -- `module_info` calls `erlang:get_module_info` with the name of the module before its own arguments
 abbrev pub run_body : Module → Levels → Body → List Value → Source → End Value Source
-run_body w ls (by_clauses cs saved) vs s = value_only (pick w cs vs ls saved (λ t. t) (λ t. Raises Error function_clause t) s)
+run_body w ls (by_clauses cs saved) vs s = value_only (if are_wide (length vs) cs then pick w cs vs ls saved (λ t. t) (λ t. Raises Error function_clause t) s else Wrong)
 run_body w ls information vs s = called.remote (side w) ls (Atom (codes "erlang")) (Atom (codes "get_module_info")) (Atom w.name ∷ vs) s
 
 abbrev pub levels : Module → ℕ → Levels

@@ -1,4 +1,3 @@
 pub mod Written
-pub mod Hex
 pub mod Lists
 pub mod Parts

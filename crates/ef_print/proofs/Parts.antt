@@ -1,8 +1,9 @@
 -- The lists in a tree: the pieces of their elements, and the names in them.
-use Rattle.std.proofs.Common.{◌≡◌, List, [], ◌∷◌, ◌++◌, length, map, refl}
+use Rattle.std.proofs.Common.{◌≡◌, List, [], ◌∷◌, ◌++◌, length, map, refl, ap, append_assoc}
 use Rattle.std.specs.Prelude.{flat_map}
 use Rattle.ef_base.specs.Texts.{Texts}
-use Rattle.ef_core.specs.declared.lexeme.Symbol.TheVariants.{Comma}
+use Rattle.ef_core.specs.declared.lexeme.Symbol.TheVariants.{Comma, Arrow}
+use Rattle.ef_core.specs.declared.lexeme.Word.TheVariants.{Try, Of, Catch}
 use Rattle.ef_core.specs.declared.literal.CoreVar.{CoreVar}
 use Rattle.ef_core.specs.declared.literal.CoreLit.{CoreLit}
 use Rattle.ef_core.specs.declared.literal.FName.{FName}
@@ -17,9 +18,9 @@ use Rattle.ef_core.specs.declared.tree.LetStep.{LetStep}
 use Rattle.ef_core.specs.Everywhere.{Each, LitsHold, ClausesHold, PatHolds, PatsHold}
 use Rattle.ef_core.specs.Layout.{var_pieces, vars_pieces, var_list, fname_pieces, lit_pieces, more_lits_pieces, in_angles, pieces, all_pieces, more_pieces, values_pieces, let_of, steps_pieces, def_of, defs_pieces, clause_of, clauses_pieces, segment_of, more_segments_pieces, pat_pieces, all_pat_pieces, more_pat_pieces, pats_pieces, more_pat_segments_pieces, attribute_pieces, def_pieces}
 use Rattle.ef_core.specs.OfTable.{of_table, VarOf, FNameOf, LitOf, CoreOf, CoresOf, StepsOf, DefOf, AttributeOf}
-use Rattle.ef_core.specs.Pieces.{Piece, put_sym}
+use Rattle.ef_core.specs.Pieces.{Piece, put_sym, put_word}
 use Rattle.ef_core.specs.Plain.{plain_lit, plain_lits, plain, plain_all, plain_pat, plain_pats, plain_steps, plain_def, plain_defs, plain_clauses, plain_segments, plain_pat_segments, plain_attribute}
-use Rattle.ef_core.specs.Tree.{CoreTree, bin, letrec, pat_bin}
+use Rattle.ef_core.specs.Tree.{CoreTree, bin, letrec, try_catch, pat_bin}
 use Rattle.ef_print.proofs.Lists.{Row}
 
 -- with a comma before each
@@ -111,6 +112,12 @@ module _ (names : Texts) where
     next_is = λ c cs. refl;
     next_named = λ c cs all. ((all.0, all.1, all.2), all.3);
   }
+
+  -- the branches of a `try`, one behind the other
+  pub two_branches : (a : CoreTree) (vs : List CoreVar) (b : CoreTree) (ws : List CoreVar) (h : CoreTree) → put_word Try ++ (pieces names a ++ (put_word Of ++ (vars_pieces names vs ++ (put_sym Arrow ++ pieces names b)) ++ (put_word Catch ++ (vars_pieces names ws ++ (put_sym Arrow ++ pieces names h))))) ≡ pieces names (try_catch a vs b ws h)
+  two_branches a vs b ws h =
+      ap (λ ps. put_word Try ++ (pieces names a ++ (put_word Of ++ ps)))
+      (append_assoc (vars_pieces names vs) (put_sym Arrow ++ pieces names b) (put_word Catch ++ (vars_pieces names ws ++ (put_sym Arrow ++ pieces names h))))
 
   abbrev pub more_segments : Row CoreSegment
   more_segments = record {

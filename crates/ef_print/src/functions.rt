@@ -4,7 +4,7 @@ ghost use Rattle.ef_core.specs.Layout.{fname_list, fname_pieces};
 ghost use Rattle.ef_core.specs.OfTable.{Each, FNameOf};
 ghost use Rattle.ef_print.specs.Prints.{Prints};
 
-use crate::lexeme::{print_arity, print_atom, print_symbol};
+use crate::lexeme::{print_atom, print_int, print_symbol};
 use ef_base::Names;
 use ef_core::{FName, Last, Symbol};
 use ef_io::{Failed, Sink};
@@ -23,7 +23,7 @@ pub fn print_fname<G: Sink>(
 {
     let so_far = print_atom(names, sink, so_far, function.name);
     let so_far = print_symbol(sink, so_far, Symbol::Slash);
-    print_arity(sink, so_far, function.arity)
+    print_int(sink, so_far, i128::from(function.arity))
 }
 
 /// Names of functions with commas between.

@@ -1,5 +1,5 @@
 // Lexemes behind what was printed so far.
-ghost use Rattle.std.specs.Prelude.{◌≡◌, [], ◌∷◌, true, pos};
+ghost use Rattle.std.specs.Prelude.{◌≡◌, [], ◌∷◌, true};
 ghost use Rattle.ef_base.specs.Texts.{HasName};
 ghost use Rattle.ef_core.specs.Layout.{atom_pieces};
 ghost use Rattle.ef_core.specs.Lexeme as spec;
@@ -81,23 +81,6 @@ pub fn print_int<G: Sink>(
     let mut buffer = Buffer::new();
     let written = write(sink, Ok(()), plain_gap(last));
     let written = write(sink, written, buffer.format(value).as_bytes());
-    ended(written, Last::Callable)
-}
-
-/// Prints the arity of a function.
-pub fn print_arity<G: Sink>(
-    sink: &mut G,
-    so_far: Result<Last, Failed>,
-    arity: u32,
-) -> Result<Last, Failed>
-    requires { (G.seen sink.old).is_open ≡ true }
-    ensures is_open { (G.seen sink.new).is_open ≡ true }
-    ensures prints { Prints (G.seen sink.old) so_far (Put (spec.Int (pos arity)) ∷ []) (G.seen sink.new) result }
-{
-    let last = so_far?;
-    let mut buffer = Buffer::new();
-    let written = write(sink, Ok(()), plain_gap(last));
-    let written = write(sink, written, buffer.format(arity).as_bytes());
     ended(written, Last::Callable)
 }
 

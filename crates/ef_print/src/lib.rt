@@ -2,6 +2,7 @@
 #![tactic(auto)]
 
 mod bytes;
+mod call;
 mod clause;
 mod escape;
 mod expr;
@@ -12,8 +13,6 @@ mod literal;
 mod module;
 mod pattern;
 mod segment;
-#[cfg(test)]
-mod tests;
 mod vars;
 
 pub use module::print;

@@ -2,17 +2,19 @@
 ghost use Rattle.std.specs.Prelude.{◌≡◌, true, [], ◌∷◌};
 ghost use Rattle.ef_core.specs.Everywhere.{PatHolds};
 ghost use Rattle.ef_core.specs.Layout.{pat_pieces, pat_segments_pieces, pieces, segment_of, segments_pieces};
-ghost use Rattle.ef_core.specs.OfTable.{CoreOf, of_table};
+ghost use Rattle.ef_core.specs.OfTable.{CoreOf, LitOf, of_table};
 ghost use Rattle.ef_core.specs.Plain.{plain, plain_lit, plain_pat, plain_pat_segments, plain_segments};
 ghost use Rattle.ef_core.specs.Tree.{bin, pat_bin};
+ghost use Rattle.ef_base.specs.Texts.{HasName};
 ghost use Rattle.ef_print.specs.Prints.{Prints};
+ghost use Rattle.ef_print.specs.Segments.{form_pieces};
 
 use crate::expr::print_expr;
 use crate::lexeme::{print_atom, print_int, print_symbol};
 use crate::literal::print_lit;
 use crate::pattern::print_pat;
-use ef_base::Names;
-use ef_core::{CorePatSegment, CoreSegment, Last, Symbol};
+use ef_base::{Name, Names};
+use ef_core::{CoreLit, CorePatSegment, CoreSegment, Last, Symbol};
 use ef_io::{Failed, Sink};
 
 /// Prints the segments of a binary, with commas between.
@@ -59,12 +61,14 @@ fn print_segment<G: Sink>(
     let so_far = print_symbol(sink, so_far, Symbol::Greater);
     let so_far = print_symbol(sink, so_far, Symbol::LeftParen);
     let so_far = print_expr(names, sink, so_far, &segment.size);
-    let so_far = print_symbol(sink, so_far, Symbol::Comma);
-    let so_far = print_int(sink, so_far, segment.unit);
-    let so_far = print_symbol(sink, so_far, Symbol::Comma);
-    let so_far = print_atom(names, sink, so_far, segment.kind);
-    let so_far = print_symbol(sink, so_far, Symbol::Comma);
-    let so_far = print_lit(names, sink, so_far, &segment.flags);
+    let so_far = print_form(
+        names,
+        sink,
+        so_far,
+        segment.unit,
+        segment.kind,
+        &segment.flags,
+    );
     print_symbol(sink, so_far, Symbol::RightParen)
 }
 
@@ -112,11 +116,36 @@ fn print_pat_segment<G: Sink>(
     let so_far = print_symbol(sink, so_far, Symbol::Greater);
     let so_far = print_symbol(sink, so_far, Symbol::LeftParen);
     let so_far = print_expr(names, sink, so_far, &segment.size);
-    let so_far = print_symbol(sink, so_far, Symbol::Comma);
-    let so_far = print_int(sink, so_far, segment.unit);
-    let so_far = print_symbol(sink, so_far, Symbol::Comma);
-    let so_far = print_atom(names, sink, so_far, segment.kind);
-    let so_far = print_symbol(sink, so_far, Symbol::Comma);
-    let so_far = print_lit(names, sink, so_far, &segment.flags);
+    let so_far = print_form(
+        names,
+        sink,
+        so_far,
+        segment.unit,
+        segment.kind,
+        &segment.flags,
+    );
     print_symbol(sink, so_far, Symbol::RightParen)
+}
+
+// `, Unit, Kind, Flags`, behind a size.
+fn print_form<G: Sink>(
+    names: &Names,
+    sink: &mut G,
+    so_far: Result<Last, Failed>,
+    unit: i128,
+    kind: Name,
+    flags: &CoreLit,
+) -> Result<Last, Failed>
+    requires is_open { (G.seen sink.old).is_open ≡ true }
+    requires kind_named { HasName names.now kind }
+    requires flags_named { LitOf names.now (plain_lit flags.now) }
+    ensures is_open { (G.seen sink.new).is_open ≡ true }
+    ensures prints { Prints (G.seen sink.old) so_far (form_pieces names.now unit kind (plain_lit flags.now)) (G.seen sink.new) result }
+{
+    let so_far = print_symbol(sink, so_far, Symbol::Comma);
+    let so_far = print_int(sink, so_far, unit);
+    let so_far = print_symbol(sink, so_far, Symbol::Comma);
+    let so_far = print_atom(names, sink, so_far, kind);
+    let so_far = print_symbol(sink, so_far, Symbol::Comma);
+    print_lit(names, sink, so_far, flags)
 }

@@ -1,9 +1,9 @@
 use Rattle.std.proofs.Common.{◌≡◌, rules, arith, ap, to_z, of_z}
 use mir.Syntax.{w128}
 use Rattle.std.proofs.lemmas.Int.{ints}
-use Rattle.ef_core.specs.Laws.{plain_fun, plain_tuple, plain_items, plain_bin, plain_lets, plain_letrec, plain_case, plain_apply, plain_call, plain_primop, plain_do, plain_receive, plain_try, plain_pat_tuple, plain_pat_items, plain_pat_alias, plain_pat_bin}
+use Rattle.ef_core.specs.Laws.{plain_bin, plain_letrec, plain_try, plain_pat_tuple, plain_pat_items, plain_pat_alias, plain_pat_bin}
 use Rattle.ef_core.specs.Layout.{all_pieces, segments_pieces, pat_segments_pieces, all_pat_pieces}
-use Rattle.ef_core.specs.Plain.{plain_all, plain_segments, plain_pat_segments, plain_pats}
+use Rattle.ef_core.specs.Plain.{plain, plain_all, plain_segments, plain_pat_segments, plain_pats}
 use Rattle.ef_core.specs.declared.tree.CoreExpr.TheFolds.{the_lemmas}
 use Rattle.ef_core.proofs.tree.CoreExpr.TheLaws as expr
 use Rattle.ef_core.proofs.tree.CorePat.TheLaws as pat
@@ -13,107 +13,46 @@ use Rattle.ef_core.proofs.tree.CoreClause.TheLaws as clause
 use Rattle.ef_core.proofs.tree.CoreSegment.TheLaws as segment
 use Rattle.ef_core.proofs.tree.CorePatSegment.TheLaws as pat_segment
 use Rattle.ef_print.proofs.Lists.{goes_more, goes_end, from_first, named_at, named_behind, item_falls, behind_falls}
-use Rattle.ef_print.proofs.Parts.{more_exprs, all_steps, all_defs, all_clauses, more_segments, more_pat_segments, more_pats, many_values, many_pats, letrec_named}
+use Rattle.ef_print.proofs.Parts.{more_exprs, all_steps, all_defs, all_clauses, more_segments, more_pat_segments, more_pats, many_values, many_pats, letrec_named, two_branches}
 use Rattle.ef_print.proofs.Written.{◌▸◌, prints_as}
 use Rattle.ef_print.proofs.+expr.Goals as goal
 
-pub expr::print_expr-returns-in-Fun-clause-prints : goal.expr::print_expr-returns-in-Fun-clause-prints
-expr::print_expr-returns-in-Fun-clause-prints g t c =
-    rw (c.in-Fun.is, plain_fun, ← c.deref.ensures.value, ← c.deref-in-Fun.ensures)
-    (c.print_params-so_far.ensures.prints ▸ c.print_expr.ensures.prints)
-
-pub expr::print_expr-returns-in-Tuple-clause-prints : goal.expr::print_expr-returns-in-Tuple-clause-prints
-expr::print_expr-returns-in-Tuple-clause-prints g t c =
-    rw (c.in-Tuple.is, plain_tuple, ← c.deref-in-Tuple.ensures.value)
-    (c.print_symbol-so_far.ensures.prints ▸ c.print_all-so_far.ensures.prints ▸ c.print_symbol.ensures.prints)
-
-pub expr::print_expr-returns-in-None-clause-prints : goal.expr::print_expr-returns-in-None-clause-prints
-expr::print_expr-returns-in-None-clause-prints g t c =
-    rw (c.in-List.is, plain_items, c.in-None.is, ← c.deref-in-List.ensures.value)
-    (c.print_symbol-so_far-in-List.ensures.prints ▸ c.print_all-so_far-in-List.ensures.prints ▸ c.print_symbol-in-None.ensures.prints)
-
-pub expr::print_expr-returns-in-Some-clause-prints : goal.expr::print_expr-returns-in-Some-clause-prints
-expr::print_expr-returns-in-Some-clause-prints g t c =
-    rw (c.in-List.is, plain_items, c.in-Some.is, ← c.deref-in-List.ensures.value, ← c.deref-in-Some.ensures)
-    (c.print_symbol-so_far-in-List.ensures.prints ▸ (c.print_all-so_far-in-List.ensures.prints ▸ c.print_symbol-so_far-in-Some.ensures.prints
-    ▸ c.print_expr-so_far.ensures.prints) ▸ c.print_symbol-in-Some.ensures.prints)
-
 pub expr::print_expr-returns-in-Bin-clause-prints : goal.expr::print_expr-returns-in-Bin-clause-prints
 expr::print_expr-returns-in-Bin-clause-prints g t c =
-    rw (c.in-Bin.is, plain_bin, ← c.deref-in-Bin.ensures.value)
-    (c.print_symbol-so_far-in-Bin.ensures.prints ▸ c.print_segments-so_far.ensures.prints ▸ c.print_symbol-in-Bin.ensures.prints)
-
-pub expr::print_expr-returns-in-Lets-clause-prints : goal.expr::print_expr-returns-in-Lets-clause-prints
-expr::print_expr-returns-in-Lets-clause-prints g t c =
-    rw (c.in-Lets.is, plain_lets, ← c.deref-in-Lets.ensures.value, ← c.deref-in-Lets-2.ensures)
-    (c.print_steps-so_far.ensures.prints ▸ c.print_expr-in-Lets.ensures.prints)
+    rw (c.in-Bin.is, plain_bin, ← c.deref-in-Bin.ensures.value) c.print_bin.ensures.prints
 
 pub expr::print_expr-returns-in-Letrec-clause-prints : goal.expr::print_expr-returns-in-Letrec-clause-prints
 expr::print_expr-returns-in-Letrec-clause-prints g t c =
-    rw (c.in-Letrec.is, plain_letrec, ← c.deref-in-Letrec.ensures.value, ← c.deref-in-Letrec-2.ensures)
-    (c.print_word-so_far.ensures.prints ▸ c.print_defs-so_far.ensures.prints ▸ c.print_word-so_far-in-Letrec.ensures.prints
-    ▸ (c.print_break-so_far.ensures _) ▸ c.print_expr-in-Letrec.ensures.prints)
-
-pub expr::print_expr-returns-in-Case-clause-prints : goal.expr::print_expr-returns-in-Case-clause-prints
-expr::print_expr-returns-in-Case-clause-prints g t c =
-    rw (c.in-Case.is, plain_case, ← c.deref-in-Case.ensures, ← c.deref-in-Case-2.ensures.value)
-    (c.print_word-so_far-in-Case.ensures.prints ▸ c.print_expr-so_far-in-Case.ensures.prints ▸ c.print_word-so_far-in-Case-2.ensures.prints
-    ▸ c.print_clauses-so_far.ensures.prints ▸ c.print_word.ensures.prints)
-
-pub expr::print_expr-returns-in-Apply-clause-prints : goal.expr::print_expr-returns-in-Apply-clause-prints
-expr::print_expr-returns-in-Apply-clause-prints g t c =
-    rw (c.in-Apply.is, plain_apply, ← c.deref-in-Apply.ensures, ← c.deref-in-Apply-2.ensures.value)
-    (c.print_word-so_far-in-Apply.ensures.prints ▸ c.print_expr-so_far-in-Apply.ensures.prints ▸ c.print_args.ensures.prints)
-
-pub expr::print_expr-returns-in-Call-clause-prints : goal.expr::print_expr-returns-in-Call-clause-prints
-expr::print_expr-returns-in-Call-clause-prints g t c =
-    rw (c.in-Call.is, plain_call, ← c.deref-in-Call.ensures, ← c.deref-in-Call-2.ensures, ← c.deref-in-Call-3.ensures.value)
-    (c.print_word-so_far-in-Call.ensures.prints ▸ c.print_expr-so_far-in-Call.ensures.prints ▸ c.print_symbol-so_far-in-Call.ensures.prints
-    ▸ c.print_expr-so_far-in-Call-2.ensures.prints ▸ c.print_args-in-Call.ensures.prints)
-
-pub expr::print_expr-returns-in-Primop-clause-prints : goal.expr::print_expr-returns-in-Primop-clause-prints
-expr::print_expr-returns-in-Primop-clause-prints g t c =
-    rw (c.in-Primop.is, plain_primop, ← c.deref-in-Primop.ensures.value)
-    (c.print_word-so_far-in-Primop.ensures.prints ▸ c.print_atom-so_far.ensures.prints ▸ c.print_args-in-Primop.ensures.prints)
-
-pub expr::print_expr-returns-in-Do-clause-prints : goal.expr::print_expr-returns-in-Do-clause-prints
-expr::print_expr-returns-in-Do-clause-prints g t c =
-    rw (c.in-Do.is, plain_do, ← c.deref-in-Do.ensures, ← c.deref-in-Do-2.ensures)
-    (c.print_word-so_far-in-Do.ensures.prints ▸ c.print_expr-so_far-in-Do.ensures.prints ▸ c.print_expr-in-Do.ensures.prints)
-
-pub expr::print_expr-returns-in-Receive-clause-prints : goal.expr::print_expr-returns-in-Receive-clause-prints
-expr::print_expr-returns-in-Receive-clause-prints g t c =
-    rw (c.in-Receive.is, plain_receive, ← c.deref-in-Receive.ensures.value, ← c.deref-in-Receive-2.ensures, ← c.deref-in-Receive-3.ensures)
-    (c.print_word-so_far-in-Receive.ensures.prints ▸ c.print_clauses-so_far-in-Receive.ensures.prints
-    ▸ c.print_word-so_far-in-Receive-2.ensures.prints ▸ c.print_expr-so_far-in-Receive.ensures.prints
-    ▸ c.print_symbol-so_far-in-Receive.ensures.prints ▸ c.print_expr-in-Receive.ensures.prints)
+    rw (c.in-Letrec.is, plain_letrec, ← c.deref-in-Letrec.ensures.value, ← c.deref-in-Letrec-2.ensures) c.print_letrec.ensures.prints
 
 pub expr::print_expr-returns-in-Try-clause-prints : goal.expr::print_expr-returns-in-Try-clause-prints
 expr::print_expr-returns-in-Try-clause-prints g t c =
     rw (c.in-Try.is, plain_try, ← c.deref-in-Try.ensures, ← c.deref-in-Try-2.ensures.value, ← c.deref-in-Try-3.ensures, ← c.deref-in-Try-4.ensures.value, ← c.deref-in-Try-5.ensures)
-    (c.print_word-so_far-in-Try.ensures.prints ▸ c.print_expr-so_far-in-Try.ensures.prints ▸ c.print_word-so_far-in-Try-2.ensures.prints
-    ▸ c.print_vars-so_far.ensures.prints ▸ c.print_symbol-so_far-in-Try.ensures.prints ▸ c.print_expr-so_far-in-Try-2.ensures.prints
-    ▸ c.print_word-so_far-in-Try-3.ensures.prints ▸ c.print_vars-so_far-in-Try.ensures.prints ▸ c.print_symbol-so_far-in-Try-2.ensures.prints
-    ▸ c.print_expr-in-Try.ensures.prints)
+    (prints_as (two_branches c.args.names.now (plain c.deref-in-Try.result.now) c.deref-in-Try-2.result.now (plain c.deref-in-Try-3.result.now) c.deref-in-Try-4.result.now (plain c.deref-in-Try-5.result.now))
+    (c.print_word-so_far.ensures.prints ▸ c.print_expr-so_far.ensures.prints ▸ c.print_branch-so_far.ensures.prints ▸ c.print_branch.ensures.prints))
 
-pub expr::print_expr-print_defs-so_far-requires : goal.expr::print_expr-print_defs-so_far-requires
-expr::print_expr-print_defs-so_far-requires g t c =
-    let named = letrec_named c.args.names.now _ _ (rw (c.in-Letrec.is, plain_letrec, ← c.deref-in-Letrec.ensures.value) at c.requires.named) in
-    λ ks lives. (search (rules, the_lemmas), (search rules, (c.print_word-so_far.ensures.is_open, named)))
-
-pub expr::print_expr-print_args-requires-in-Call : goal.expr::print_expr-print_args-requires-in-Call
-expr::print_expr-print_args-requires-in-Call g t c =
-    let named = rw (c.in-Call.is, plain_call, ← c.deref-in-Call-3.ensures.value) at c.requires.named in
-    λ ks lives. (search (rules, the_lemmas), (search rules, (c.print_expr-so_far-in-Call-2.ensures.is_open, named.3)))
+pub expr::print_fun-returns-clause-prints : goal.expr::print_fun-returns-clause-prints
+expr::print_fun-returns-clause-prints g t c =
+    c.print_params-so_far.ensures.prints ▸ c.print_expr.ensures.prints
 
 pub expr::print_values-returns-clause-prints : goal.expr::print_values-returns-clause-prints
 expr::print_values-returns-clause-prints g t c =
     prints_as (many_values c.args.names.now c.args.values.now (λ one. c.if-values-eq1.false one))
     (c.print_symbol-so_far.ensures.prints ▸ c.print_all-so_far.ensures.prints ▸ c.print_symbol.ensures.prints)
 
-pub expr::print_args-returns-clause-prints : goal.expr::print_args-returns-clause-prints
-expr::print_args-returns-clause-prints g t c =
+pub expr::print_tuple-returns-clause-prints : goal.expr::print_tuple-returns-clause-prints
+expr::print_tuple-returns-clause-prints g t c =
     c.print_symbol-so_far.ensures.prints ▸ c.print_all-so_far.ensures.prints ▸ c.print_symbol.ensures.prints
+
+pub expr::print_list-returns-in-None-clause-prints : goal.expr::print_list-returns-in-None-clause-prints
+expr::print_list-returns-in-None-clause-prints g t c =
+    rw (c.in-None.is) (c.print_symbol-so_far.ensures.prints ▸ c.print_all-so_far.ensures.prints ▸ c.print_symbol.ensures.prints)
+
+pub expr::print_list-returns-in-Some-clause-prints : goal.expr::print_list-returns-in-Some-clause-prints
+expr::print_list-returns-in-Some-clause-prints g t c =
+    rw (c.in-Some.is, ← c.deref.ensures)
+    (c.print_symbol-so_far.ensures.prints ▸ (c.print_all-so_far.ensures.prints ▸ c.print_symbol-so_far-in-Some.ensures.prints
+    ▸ c.print_expr-so_far.ensures.prints) ▸ c.print_symbol-in-Some.ensures.prints)
 
 pub expr::print_all-print_expr-so_far-requires-in-loop-expr : goal.expr::print_all-print_expr-so_far-requires-in-loop-expr
 expr::print_all-print_expr-so_far-requires-in-loop-expr g t c =
@@ -129,6 +68,14 @@ pub expr::print_all-returns-after-loop-expr-clause-prints : goal.expr::print_all
 expr::print_all-returns-after-loop-expr-clause-prints g t c =
     prints_as (ap (λ l. all_pieces c.args.names.now (plain_all l)) (from_first _ _ c.in-len1-up.len_at_least c.first-item.is))
     (c.print_expr-so_far.ensures.prints ▸ goes_end c.loop-expr.invariant c.loop-expr-test.false)
+
+pub expr::print_bin-returns-clause-prints : goal.expr::print_bin-returns-clause-prints
+expr::print_bin-returns-clause-prints g t c =
+    c.print_symbol-so_far.ensures.prints ▸ c.print_segments-so_far.ensures.prints ▸ c.print_symbol.ensures.prints
+
+pub expr::print_lets-returns-clause-prints : goal.expr::print_lets-returns-clause-prints
+expr::print_lets-returns-clause-prints g t c =
+    c.print_steps-so_far.ensures.prints ▸ c.print_expr.ensures.prints
 
 pub expr::print_steps-print_step-so_far-requires : goal.expr::print_steps-print_step-so_far-requires
 expr::print_steps-print_step-so_far-requires g t c =
@@ -149,6 +96,16 @@ expr::print_step-returns-clause-prints g t c =
     (c.print_word-so_far.ensures.prints ▸ c.print_vars-so_far.ensures.prints ▸ c.print_symbol-so_far.ensures.prints
     ▸ c.print_expr-so_far.ensures.prints ▸ c.print_word-so_far-2.ensures.prints ▸ (c.print_break.ensures _))
 
+pub expr::print_letrec-print_defs-so_far-requires : goal.expr::print_letrec-print_defs-so_far-requires
+expr::print_letrec-print_defs-so_far-requires g t c =
+    let named = letrec_named c.args.names.now _ _ c.requires.named in
+    λ ks lives. (search (rules, the_lemmas), (search rules, (c.print_word-so_far.ensures.is_open, named)))
+
+pub expr::print_letrec-returns-clause-prints : goal.expr::print_letrec-returns-clause-prints
+expr::print_letrec-returns-clause-prints g t c =
+    c.print_word-so_far.ensures.prints ▸ c.print_defs-so_far.ensures.prints ▸ c.print_word-so_far-2.ensures.prints
+    ▸ (c.print_break-so_far.ensures _) ▸ c.print_expr.ensures.prints
+
 pub expr::print_defs-print_def-so_far-requires : goal.expr::print_defs-print_def-so_far-requires
 expr::print_defs-print_def-so_far-requires g t c =
     let named = named_at (all_defs c.args.names.now) c.args.defs.now _ _ c.requires.named c.loop-def-test.true c.def-item.is in
@@ -166,6 +123,41 @@ pub expr::print_def-returns-clause-prints : goal.expr::print_def-returns-clause-
 expr::print_def-returns-clause-prints g t c =
     rw (← c.deref.ensures.value)
     (c.print_fname-so_far.ensures.prints ▸ c.print_symbol-so_far.ensures.prints ▸ c.print_params-so_far.ensures.prints ▸ c.print_expr.ensures.prints)
+
+pub expr::print_case-returns-clause-prints : goal.expr::print_case-returns-clause-prints
+expr::print_case-returns-clause-prints g t c =
+    c.print_word-so_far.ensures.prints ▸ c.print_expr-so_far.ensures.prints ▸ c.print_word-so_far-2.ensures.prints
+    ▸ c.print_clauses-so_far.ensures.prints ▸ c.print_word.ensures.prints
+
+pub expr::print_do-returns-clause-prints : goal.expr::print_do-returns-clause-prints
+expr::print_do-returns-clause-prints g t c =
+    c.print_word-so_far.ensures.prints ▸ c.print_expr-so_far.ensures.prints ▸ c.print_expr.ensures.prints
+
+pub expr::print_receive-returns-clause-prints : goal.expr::print_receive-returns-clause-prints
+expr::print_receive-returns-clause-prints g t c =
+    c.print_word-so_far.ensures.prints ▸ c.print_clauses-so_far.ensures.prints ▸ c.print_word-so_far-2.ensures.prints
+    ▸ c.print_expr-so_far.ensures.prints ▸ c.print_symbol-so_far.ensures.prints ▸ c.print_expr.ensures.prints
+
+pub expr::print_branch-returns-clause-prints : goal.expr::print_branch-returns-clause-prints
+expr::print_branch-returns-clause-prints g t c =
+    c.print_word-so_far.ensures.prints ▸ c.print_vars-so_far.ensures.prints ▸ c.print_symbol-so_far.ensures.prints ▸ c.print_expr.ensures.prints
+
+pub call::print_apply-returns-clause-prints : goal.call::print_apply-returns-clause-prints
+call::print_apply-returns-clause-prints g t c =
+    c.print_word-so_far.ensures.prints ▸ c.print_expr-so_far.ensures.prints ▸ c.print_args.ensures.prints
+
+pub call::print_call-returns-clause-prints : goal.call::print_call-returns-clause-prints
+call::print_call-returns-clause-prints g t c =
+    c.print_word-so_far.ensures.prints ▸ c.print_expr-so_far.ensures.prints ▸ c.print_symbol-so_far.ensures.prints
+    ▸ c.print_expr-so_far-2.ensures.prints ▸ c.print_args.ensures.prints
+
+pub call::print_primop-returns-clause-prints : goal.call::print_primop-returns-clause-prints
+call::print_primop-returns-clause-prints g t c =
+    c.print_word-so_far.ensures.prints ▸ c.print_atom-so_far.ensures.prints ▸ c.print_args.ensures.prints
+
+pub call::print_args-returns-clause-prints : goal.call::print_args-returns-clause-prints
+call::print_args-returns-clause-prints g t c =
+    c.print_symbol-so_far.ensures.prints ▸ c.print_all-so_far.ensures.prints ▸ c.print_symbol.ensures.prints
 
 pub clause::print_clauses-print_clause-so_far-requires : goal.clause::print_clauses-print_clause-so_far-requires
 clause::print_clauses-print_clause-so_far-requires g t c =
@@ -204,9 +196,7 @@ segment::print_segments-returns-after-loop-segment-clause-prints g t c =
 pub segment::print_segment-returns-clause-prints : goal.segment::print_segment-returns-clause-prints
 segment::print_segment-returns-clause-prints g t c =
     rw (← unit_is) ((c.print_symbol-so_far.ensures.prints ▸ c.print_expr-so_far.ensures.prints ▸ c.print_symbol-so_far-2.ensures.prints)
-    ▸ (c.print_symbol-so_far-3.ensures.prints ▸ (c.print_expr-so_far-2.ensures.prints ▸ c.print_symbol-so_far-4.ensures.prints
-    ▸ c.print_int-so_far.ensures.prints ▸ c.print_symbol-so_far-5.ensures.prints ▸ c.print_atom-so_far.ensures.prints
-    ▸ c.print_symbol-so_far-6.ensures.prints ▸ c.print_lit-so_far.ensures.prints) ▸ c.print_symbol.ensures.prints))
+    ▸ (c.print_symbol-so_far-3.ensures.prints ▸ (c.print_expr-so_far-2.ensures.prints ▸ c.print_form-so_far.ensures.prints) ▸ c.print_symbol.ensures.prints))
   where
     unit_is : to_z w128 (of_z w128 c.args.segment.now.unit) ≡ c.args.segment.now.unit
     unit_is = omega (arith, ints)
@@ -229,9 +219,7 @@ segment::print_pat_segments-returns-after-loop-segment-clause-prints g t c =
 pub segment::print_pat_segment-returns-clause-prints : goal.segment::print_pat_segment-returns-clause-prints
 segment::print_pat_segment-returns-clause-prints g t c =
     rw (← unit_is) ((c.print_symbol-so_far.ensures.prints ▸ c.print_pat-so_far.ensures.prints ▸ c.print_symbol-so_far-2.ensures.prints)
-    ▸ (c.print_symbol-so_far-3.ensures.prints ▸ (c.print_expr-so_far.ensures.prints ▸ c.print_symbol-so_far-4.ensures.prints
-    ▸ c.print_int-so_far.ensures.prints ▸ c.print_symbol-so_far-5.ensures.prints ▸ c.print_atom-so_far.ensures.prints
-    ▸ c.print_symbol-so_far-6.ensures.prints ▸ c.print_lit-so_far.ensures.prints) ▸ c.print_symbol.ensures.prints))
+    ▸ (c.print_symbol-so_far-3.ensures.prints ▸ (c.print_expr-so_far.ensures.prints ▸ c.print_form-so_far.ensures.prints) ▸ c.print_symbol.ensures.prints))
   where
     unit_is : to_z w128 (of_z w128 c.args.segment.now.unit) ≡ c.args.segment.now.unit
     unit_is = omega (arith, ints)

@@ -84,6 +84,10 @@ module _ (texts : Texts) (defined : List FunctionName) where
     keeps = both_keep texts es ds n env0 a m env1 vs b k env2 us one.keeps two.keeps;
   }
 
+  -- a value that needs no step
+  pub leaf_adds : {e : Tree} {n : ℕ} {env : List Bind} {v : CoreTree} (old : List StepTree) → Lowers texts defined e n env [] n env v → Adds old old (λ a. Lowers texts defined e n env a n env v)
+  leaf_adds {e} {n} {env} {v} old is = record { added = []; steps = sym (append-nil old); is = is }
+
   -- a value as an argument
   pub held_lowers : {e : Tree} {n m k : ℕ} {env0 env1 : List Bind} {old mid new : List StepTree} {v x : CoreTree} → Adds old mid (λ a. Lowers texts defined e n env0 a m env1 v) → StandsFor v m mid k new x → Adds old new (λ a. LowersAll texts defined (e ∷ []) n env0 a k env1 (x ∷ []))
   held_lowers {e} {n} {m} {k} {env0} {env1} {old} {mid} {new} {v} {x} one (inl same) = record {
@@ -119,6 +123,7 @@ module _ (texts : Texts) (defined : List FunctionName) where
         value_as texts defined same (record {
           form = made_form texts defined (tree p (t.list_to (trees []) e)) x both.forms (omega arith) (omega arith) (λ y. sym (or_false (sure e y)))
               argument.lowered (simple_no_run x argument.simple) (let deep : depth x ≤ all_depth (trees (e ∷ [])) = argument.shallow in omega arith) (λ xs fs functions is. is.0);
+          stays = tt;
           keeps = tail_keeps texts p e (held_keeps texts e n env0 (a ++ b) k env2 x both.keeps);
         })
     list_to_lowers (d ∷ es) [] one two same = absurd (let none = one.forms.number in omega arith)
@@ -133,6 +138,7 @@ module _ (texts : Texts) (defined : List FunctionName) where
               (λ y. ap (λ z. all_sure (trees es) y || z) (sym (or_false (sure e y))) ∙ sym (sure_both es (e ∷ []) y))
               ((tt, ((tt, (tt, tt)), (tt, tt, tt))), ((tt, ((tt, (some_literals w ws made.0 made.2, tt)), tt)), lits_hold texts (all_depth (trees es)) made.0 first.forms.arguments, last.forms.arguments.0.lowered.1)) tt
               (let front = lits_deep texts (all_depth (trees es)) made.0 first.forms.arguments in let back = last.forms.arguments.0.shallow in omega arith) (λ xs fs functions is. tt);
+          stays = tt;
           keeps = list_to_literal_keeps texts p es e n env0 a m env1 b k env2 made.0 made.1 first.keeps last.keeps;
         })
     list_to_lowers es (w ∷ ws) one two (inr made) =
@@ -151,6 +157,7 @@ module _ (texts : Texts) (defined : List FunctionName) where
               tt
               (let front = arguments_depth texts levels (w ∷ ws) one.forms.arguments in let back : depth x ≤ all_depth (trees (e ∷ [])) = argument.shallow in omega arith)
               (λ xs fs functions is. let parts = values_split xs fs (w ∷ ws) (x ∷ []) is in (parts.0, parts.1.0));
+          stays = tt;
           keeps = list_to_keeps texts p es e n env0 a m env1 b k env2 (w ∷ ws) x one.keeps two.keeps;
         })
 
@@ -159,6 +166,7 @@ module _ (texts : Texts) (defined : List FunctionName) where
   pub any_lowers : (q r : Place) {e : Tree} {n m : ℕ} {env0 env1 : List Bind} {a : List StepTree} {v : CoreTree} → Lowers texts defined e n env0 a m env1 v → Lowers texts defined (tree q (t.matching (tree r t.any) e)) n env0 a m env1 v
   any_lowers q r {e} one = record {
     form = form_as texts defined e (tree q (t.matching (tree r t.any) e)) one.form (omega arith) (omega arith) (λ y. or_false (sure e y));
+    stays = tt;
     keeps = any_keeps texts q r e one.keeps;
   }
 
@@ -190,5 +198,6 @@ module _ (texts : Texts) (defined : List FunctionName) where
           argument = λ simple. omega arith;
           in_scope = λ xs fs variables functions. let all = one.forms.in_scope xs fs variables functions in (all.0, has_both env1 (bind x y ∷ []) _ all.1 (all.2.0, tt), all.2);
         };
+        stays = tt;
         keeps = bound_keeps texts q r x e n env0 a m env1 y free one.keeps;
       }

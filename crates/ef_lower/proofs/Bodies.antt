@@ -56,7 +56,7 @@ pub record IsLoweredBody (texts : Texts) (defined : List FunctionName) (es : Lis
   pub shallow : depth e + 1 ≤ 16 * all_depth (trees es)
   pub means : KeepsBody texts es env names e
 
-finishes : (ss : List StepTree) (v e : CoreTree) → Finishes ss v e → e ≡ finished ss v
+pub finishes : (ss : List StepTree) (v e : CoreTree) → Finishes ss v e → e ≡ finished ss v
 finishes [] v e is = is
 finishes (s ∷ ss) v e is = is
 

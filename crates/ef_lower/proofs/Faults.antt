@@ -5,10 +5,10 @@ use Rattle.ef_base.specs.declared.name.Name.{Name}
 use Rattle.ef_base.specs.declared.fault.Place.{Place}
 use Rattle.ef_base.specs.Texts.{Texts}
 use Rattle.ef_forms.specs.Sure.{sure}
-use Rattle.ef_forms.specs.Tree.{Tree, Trees, Clauses, tree, int, atom, var, any, list, list_to, tuple, matching, call, remote, case_of, end, more, no_clauses, clause}
-use Rattle.ef_forms.specs.Ways.{NameSet, Way, union, bind, all_names, ways, on_some, on_all, unbound, unsafe, use_faults, name_faults, pattern_faults, patterns_faults, pattern_clauses_faults, faults, all_faults, body_faults, clauses_faults}
+use Rattle.ef_forms.specs.Tree.{Tree, Trees, Guards, Clauses, tree, int, atom, var, any, list, list_to, tuple, matching, call, remote, case_of, end, more, no_guard, or_guard, no_clauses, clause}
+use Rattle.ef_forms.specs.Ways.{NameSet, Way, union, bind, all_names, ways, on_some, on_all, unbound, unsafe, use_faults, name_faults, pattern_faults, patterns_faults, pattern_guards_faults, pattern_clauses_faults, faults, all_faults, body_faults, guards_faults, clauses_faults}
 use Rattle.ef_forms.proofs.Bools.{and_true, or_false}
-use Rattle.ef_forms.proofs.Grows.{grows_ways}
+use Rattle.ef_forms.proofs.Grows.{grows_ways, grows_body}
 use Rattle.ef_forms.proofs.Growth.{given, Grows, grows_bind, after_given, after_some, after_all}
 use Rattle.ef_forms.proofs.Within.{sure_follows, within_same}
 
@@ -140,10 +140,15 @@ module _ (all : Texts) where
     safer_patterns end a b w h = refl
     safer_patterns (more e es) a b w h = both_none _ _ _ _ (safer_pattern e a b w) (safer_patterns es a b w) h
 
+    safer_pattern_guards : (gs : Guards) (a b : List NameSet) → Safer a b → pattern_guards_faults all gs b ≡ [] → pattern_guards_faults all gs a ≡ []
+    safer_pattern_guards no_guard a b w h = refl
+    safer_pattern_guards (or_guard es gs) a b w h = both_none _ _ _ _ (safer_patterns es a b w) (safer_pattern_guards gs a b w) h
+
     safer_pattern_clauses : (cs : Clauses) (a b : List NameSet) → Safer a b → pattern_clauses_faults all cs b ≡ [] → pattern_clauses_faults all cs a ≡ []
     safer_pattern_clauses no_clauses a b w h = refl
     safer_pattern_clauses (clause p ps g body cs) a b w h =
-        both_none _ _ _ _ (safer_patterns ps a b w) (both_none _ _ _ _ (safer_patterns body a b w) (safer_pattern_clauses cs a b w)) h
+        both_none _ _ _ _ (safer_patterns ps a b w)
+        (both_none _ _ _ _ (safer_pattern_guards g a b w) (both_none _ _ _ _ (safer_patterns body a b w) (safer_pattern_clauses cs a b w))) h
 
   mutual
     pub safer_faults : (e : Tree) (a b : List NameSet) → Safer a b → faults all e b ≡ [] → faults all e a ≡ []
@@ -167,10 +172,16 @@ module _ (all : Texts) where
     safer_body end a b w h = refl
     safer_body (more e es) a b w h = both_none _ _ _ _ (safer_faults e a b w) (safer_body es _ _ (safer_after _ _ _ (grows_ways e) a b w)) h
 
+    safer_guards : (gs : Guards) (a b : List NameSet) → Safer a b → guards_faults all gs b ≡ [] → guards_faults all gs a ≡ []
+    safer_guards no_guard a b w h = refl
+    safer_guards (or_guard es gs) a b w h = both_none _ _ _ _ (safer_body es a b w) (safer_guards gs _ _ (safer_after _ _ _ (grows_body es) a b w)) h
+
     pub safer_clauses : (cs : Clauses) (a b : List NameSet) → Safer a b → clauses_faults all cs b ≡ [] → clauses_faults all cs a ≡ []
     safer_clauses no_clauses a b w h = refl
     safer_clauses (clause p ps g body cs) a b w h =
-        both_none _ _ _ _ (safer_patterns ps a b w) (both_none _ _ _ _ (safer_body body _ _ (safer_after _ _ _ (grows_bind (all_names ps)) a b w)) (safer_clauses cs a b w)) h
+        let inside = safer_after _ _ _ (grows_bind (all_names ps)) a b w in
+        both_none _ _ _ _ (safer_patterns ps a b w)
+        (both_none _ _ _ _ (safer_guards g _ _ inside) (both_none _ _ _ _ (safer_body body _ _ inside) (safer_clauses cs a b w))) h
 
 -- a use without a fault is of a bound name
 pub used_bound : (texts : Texts) (p : Place) (n : Name) (s : NameSet) → use_faults texts p n (s ∷ []) ≡ [] → s n.index ≡ true

@@ -6,9 +6,9 @@ use Rattle.ef_core.specs.declared.env.Bind.{Bind}
 use Rattle.ef_core.specs.Env.{NamesDiffer, held}
 use Rattle.ef_core.specs.Everywhere.{Each}
 use Rattle.ef_forms.specs.Sure.{sure, shape_sure, all_sure, clauses_sure}
-use Rattle.ef_forms.specs.Tree.{Tree, Shape, Trees, Clauses, tree, int, atom, var, any, list, list_to, tuple, matching, call, remote, case_of, end, more, no_clauses, clause}
-use Rattle.ef_forms.specs.Ways.{NameSet, no_names, one_name, union, common, names, shape_names, all_names, clauses_names}
-use Rattle.ef_forms.specs.Weight.{weight, shape_weight, all_weight, clauses_weight}
+use Rattle.ef_forms.specs.Tree.{Tree, Shape, Trees, Guards, Clauses, tree, int, atom, var, any, list, list_to, tuple, matching, call, remote, case_of, end, more, no_guard, or_guard, no_clauses, clause}
+use Rattle.ef_forms.specs.Ways.{NameSet, no_names, one_name, union, common, names, shape_names, all_names, guards_names, clauses_names}
+use Rattle.ef_forms.specs.Weight.{weight, shape_weight, all_weight, guards_weight, clauses_weight}
 use Rattle.ef_meaning.proofs.Bodies.{same_name}
 use Rattle.ef_lower.specs.Ready.{bound_names}
 use Rattle.ef_lower.proofs.Faults.{from_right}
@@ -92,11 +92,16 @@ module _ (bs : List Bind) (differ : NamesDiffer bs) where
     few_in_all end = let none = none_in bs in omega arith
     few_in_all (more e es) = let most = union_most (names e) (all_names es) bs in let one = few_in e in let all = few_in_all es in omega arith
 
+    few_in_guards : (gs : Guards) → count_in (guards_names gs) bs ≤ guards_weight gs
+    few_in_guards no_guard = let none = none_in bs in omega arith
+    few_in_guards (or_guard es gs) = let most = union_most (all_names es) (guards_names gs) bs in let all = few_in_all es in let rest = few_in_guards gs in omega arith
+
     few_in_clauses : (cs : Clauses) → count_in (clauses_names cs) bs ≤ clauses_weight cs
     few_in_clauses no_clauses = let none = none_in bs in omega arith
     few_in_clauses (clause p ps g body cs) =
-        let most = union_most (all_names ps) (union (all_names body) (clauses_names cs)) bs in let most_of = union_most (all_names body) (clauses_names cs) bs in
-        let left = few_in_all ps in let right = few_in_all body in let rest = few_in_clauses cs in omega arith
+        let most = union_most (all_names ps) (union (guards_names g) (union (all_names body) (clauses_names cs))) bs in
+        let most_in = union_most (guards_names g) (union (all_names body) (clauses_names cs)) bs in let most_of = union_most (all_names body) (clauses_names cs) bs in
+        let left = few_in_all ps in let tests = few_in_guards g in let right = few_in_all body in let rest = few_in_clauses cs in omega arith
 
   -- those that are bound for sure
   mutual

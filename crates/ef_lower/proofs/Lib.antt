@@ -17,8 +17,10 @@ pub mod Source
 pub mod Exported
 pub mod Bodies
 pub mod Shared
+pub mod LastCalls
 pub mod LoweredArms
 pub mod ByCase
+pub mod Chosen
 pub mod OneArm
 pub mod Renames
 pub mod Stepped

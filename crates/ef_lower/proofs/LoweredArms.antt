@@ -53,7 +53,7 @@ module _ (texts : Texts) (defined : List FunctionName) (n : ℕ) (env : List Bin
   arms_differ (c ∷ cs) [] are = absurd are
   arms_differ (c ∷ cs) (a ∷ arms) are = (differ_back env a.binds are.0.differ, arms_differ cs arms are.1)
 
-  arms_new : (cs : List ClauseTree) (arms : List ArmTree) → AreArms texts defined n env cs arms → Each (λ a. Each (λ b. held env b.name ≡ None) a.binds) arms
+  pub arms_new : (cs : List ClauseTree) (arms : List ArmTree) → AreArms texts defined n env cs arms → Each (λ a. Each (λ b. held env b.name ≡ None) a.binds) arms
   arms_new [] [] are = tt
   arms_new [] (a ∷ arms) are = absurd are
   arms_new (c ∷ cs) [] are = absurd are

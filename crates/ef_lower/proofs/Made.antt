@@ -56,12 +56,14 @@ module _ (texts : Texts) (defined : List FunctionName) where
     pub int_lowers : (i : ℤ) → IsInRange i → Lowers texts defined (tree p (t.int i)) n env [] n env (c.lit (c.int i))
     int_lowers i in_range = record {
       form = leaf_form texts defined (tree p (t.int i)) (c.lit (c.int i)) readable_env (λ y here. absurd (cc)) (int_lowered texts i in_range) tt (omega arith) (λ vs fs variables functions. tt);
+      stays = tt;
       keeps = int_keeps texts p i n env below;
     }
 
     pub atom_lowers : (x : Name) → HasName texts x → Lowers texts defined (tree p (t.atom x)) n env [] n env (c.lit (c.atom x))
     atom_lowers x named = record {
       form = leaf_form texts defined (tree p (t.atom x)) (c.lit (c.atom x)) readable_env (λ y here. absurd (cc)) (atom_lowered texts x named) tt (omega arith) (λ vs fs variables functions. tt);
+      stays = tt;
       keeps = atom_keeps texts p x n env below;
     }
 
@@ -69,6 +71,7 @@ module _ (texts : Texts) (defined : List FunctionName) where
     var_lowers x v bound is = record {
       form = leaf_form texts defined (tree p (t.var x)) (c.var v) readable_env (λ y here. subst (λ z. bound_names env z ≡ true) (eqb-true x.index y here) bound)
           (variable_lowered texts v (held_has (readable texts).variable env x v readable_env is)) tt (omega arith) (λ vs fs variables functions. held_has (IsAmong vs) env x v variables is);
+      stays = tt;
       keeps = var_keeps texts p x v n env below is;
     }
 
@@ -89,6 +92,7 @@ module _ (texts : Texts) (defined : List FunctionName) where
           )
               tt (let deep = arguments_depth texts levels vs all.forms.arguments in omega arith)
               (λ xs fs functions is. (functions (record { name = x; arity = arity }) known, is));
+          stays = tt;
           keeps = subst (λ k. KeepsExpr texts e n env0 a m env1 (c.apply (c.fun_name (record { name = x; arity = k })) (core.trees vs))) (sym is) (call_keeps texts p q x es n env0 a m env1 vs all.keeps);
         }
 
@@ -106,6 +110,7 @@ module _ (texts : Texts) (defined : List FunctionName) where
           )
               tt (let deep = arguments_depth texts levels vs all.forms.arguments in omega arith)
               (λ xs fs functions is. (tt, tt, is));
+          stays = tt;
           keeps = remote_call_keeps texts p q r x y es n env0 a m env1 vs all.keeps;
         }
 
@@ -124,6 +129,7 @@ module _ (texts : Texts) (defined : List FunctionName) where
             form = made_form texts defined (tree p (t.tuple (trees es))) (c.lit (c.lit_tuple (lits made.0))) here.forms (omega arith) (omega arith) (λ y. refl)
                 (((tt, ((tt, (tt, tt)), (tt, tt, tt))), ((tt, ((tt, (tt, tt)), tt)), lits_hold texts levels made.0 here.forms.arguments))) tt
                 (let deep = lits_deep texts levels made.0 here.forms.arguments in omega arith) (λ xs fs functions is. tt);
+            stays = tt;
             keeps = tuple_literal_keeps texts p es n env0 a m env1 made.0 here.keeps;
           })
       tuple_lowers all (inr made) =
@@ -132,6 +138,7 @@ module _ (texts : Texts) (defined : List FunctionName) where
             form = made_form texts defined (tree p (t.tuple (trees es))) (c.tuple (core.trees vs)) all.forms (omega arith) (omega arith) (λ y. refl)
                 ((simple texts levels vs all.forms.arguments, ((made.0, (single texts levels vs all.forms.arguments, tt)), (tt, tt, tt))), arguments_lowered texts levels vs all.forms.arguments) tt
                 (let deep = arguments_depth texts levels vs all.forms.arguments in omega arith) (λ xs fs functions is. is);
+            stays = tt;
             keeps = tuple_keeps texts p es n env0 a m env1 vs all.keeps;
           })
 
@@ -143,6 +150,7 @@ module _ (texts : Texts) (defined : List FunctionName) where
             form = made_form texts defined (tree p (t.list (trees es))) (c.lit (c.lit_list (lits made.0))) here.forms (omega arith) (omega arith) (λ y. refl)
                 (((tt, ((tt, (tt, tt)), (tt, tt, tt))), ((tt, ((tt, (tt, tt)), tt)), lits_hold texts levels made.0 here.forms.arguments))) tt
                 (let deep = lits_deep texts levels made.0 here.forms.arguments in omega arith) (λ xs fs functions is. tt);
+            stays = tt;
             keeps = list_literal_keeps texts p es n env0 a m env1 made.0 here.keeps;
           })
       list_lowers all (inr made) =
@@ -151,5 +159,6 @@ module _ (texts : Texts) (defined : List FunctionName) where
             form = made_form texts defined (tree p (t.list (trees es))) (c.list (core.trees vs)) all.forms (omega arith) (omega arith) (λ y. refl)
                 ((simple texts levels vs all.forms.arguments, ((made.0, (single texts levels vs all.forms.arguments, tt)), (tt, tt, tt))), arguments_lowered texts levels vs all.forms.arguments) tt
                 (let deep = arguments_depth texts levels vs all.forms.arguments in omega arith) (λ xs fs functions is. is);
+            stays = tt;
             keeps = list_keeps texts p es n env0 a m env1 vs all.keeps;
           })

@@ -183,7 +183,7 @@ module _ (texts : Texts) (defined : List FunctionName) (p e : Tree) (x : CoreVar
         subst (λ z. Lowers texts defined match_tree n0 env0 (a ++ z ∷ []) m env2 (c.var x)) (sym step_is)
         (subst (λ k. Lowers texts defined match_tree n0 env0 (a ++ made_step ∷ []) k env2 (c.var x)) (sym number)
         (subst (λ l. Lowers texts defined match_tree n0 env0 (a ++ made_step ∷ []) number_after l (c.var x)) (sym step.bound)
-        (record { form = match_form; keeps = match_kept })))
+        (record { form = match_form; stays = tt; keeps = match_kept })))
 
 -- the match behind its value
 pub match_lowers : (texts : Texts) (defined : List FunctionName) (q : Place) (p e : Tree) (n0 : ℕ) (env0 : List Bind) (n : ℕ) (env1 : List Bind) (m : ℕ) (env2 : List Bind) (first old new : List StepTree) (v u : CoreTree) →

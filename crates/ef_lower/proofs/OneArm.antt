@@ -47,7 +47,7 @@ front_enough texts defined n env c ready enough = let some = one_weight c.patter
 module _ (texts : Texts) (defined : List FunctionName) (n : ℕ) (env : List Bind) (c : ClauseTree) (ready : IsReadyClause texts defined (bound_names env) c) (m : ℕ) (env1 : List Bind) (pats : PatTrees) (guard : CoreTree) (front : IsFront texts c n env m env1 pats guard) where
   pub ready_body : Each (IsReadableBind texts) env → n + 500 * clauses_weight (clauses (c ∷ [])) ≤ most_variables → IsReadyBody texts defined m env1 c.body
   ready_body readable enough =
-      let found = front.is_pattern in
+      let found = front.parts.is_pattern in
       let binds = front.binds in
       subst (λ l. IsReadyBody texts defined m l c.body) (sym front.bound) (record {
         some = ready.some;
@@ -56,8 +56,8 @@ module _ (texts : Texts) (defined : List FunctionName) (n : ℕ) (env : List Bin
         of_table = ready.of_table;
         readable = each_both (IsReadableBind texts) env binds readable found.readable_binds;
         no_faults = subst (λ s. body_faults texts (trees c.body) (s ∷ []) ≡ []) (sym (same_set (bound_names (env ++ binds)) (union (bound_names env) (all_names (trees c.patterns))) found.names_all)) ready.no_faults;
-        below = are_below_more front.matched m (env ++ binds) front.guard_drawn.0 found.matched.below;
-        enough = let some = one_weight c.patterns ready.one in let drawn = found.drawn.1 in let more = front.guard_drawn.1 in omega arith;
+        below = are_below_more front.parts.matched m (env ++ binds) front.parts.guard_drawn.0 found.matched.below;
+        enough = let some = one_weight c.patterns ready.one in let drawn = found.drawn.1 in let more = front.parts.guard_drawn.1 in omega arith;
       })
 
   module _ (es : List Tree) (same : es ≡ c.body) (old steps : List StepTree) (none : old ≡ []) (last : ℕ) (after : List Bind) (value : CoreTree) (body : LowersBody texts defined es m env1 old steps last after value) (start : ℕ) (place : start ≡ length env) where
@@ -83,18 +83,18 @@ module _ (texts : Texts) (defined : List FunctionName) (n : ℕ) (env : List Bin
 
     pub one_arm : NamesDiffer after → (own : List Bind) → own ≡ drop start after → IsArm texts defined n env c (record { pats = pats; guard = guard; steps = steps; value = value; binds = own; drawn = last })
     one_arm differ own is = subst (λ l. IsArm texts defined n env c (record { pats = pats; guard = guard; steps = steps; value = value; binds = l; drawn = last })) (sym is) (record {
-      tests = front.tests;
+      tests = front.parts.tests;
       binds = front.binds;
-      matched = front.matched;
+      matched = front.parts.matched;
       guarded = m;
       unguarded = ready.unguarded;
-      is_pattern = front.is_pattern;
-      is_guard = front.is_guard;
-      guard_drawn = front.guard_drawn;
+      is_pattern = front.parts.is_pattern;
+      is_guard = front.parts.is_guard;
+      guard_drawn = front.parts.guard_drawn;
       is_body = subst (λ l. LowersBody texts defined c.body m (env ++ front.binds) [] steps last l value) back_is lowers;
       differ = subst NamesDiffer back_is differ;
       enough =
-          let some = one_weight c.patterns ready.one in let drawn = front.is_pattern.drawn.1 in let more = front.guard_drawn.1 in
+          let some = one_weight c.patterns ready.one in let drawn = front.parts.is_pattern.drawn.1 in let more = front.parts.guard_drawn.1 in
           let body = body_enough texts defined refl lowers in omega arith;
     })
 

@@ -22,7 +22,7 @@ use Rattle.ef_lower.proofs.Sizes.{bound_both}
 
 -- ---- names that are left
 
-held_bound : (env : List Bind) (x : Name) → is_some (held env x) ≡ bound_names env x.index
+pub held_bound : (env : List Bind) (x : Name) → is_some (held env x) ≡ bound_names env x.index
 held_bound [] x = refl
 held_bound (b ∷ bs) x = by (b.name.index == x.index) (held_bound bs x)
   where

@@ -23,16 +23,13 @@ use Rattle.ef_forms.specs.Ways.{NameSet, union, all_names, all_faults, body_faul
 use Rattle.ef_forms.specs.Weight.{all_weight, clauses_weight, weight}
 use Rattle.ef_forms.proofs.Plain.{plain_expr, plain_list, plain_list_to}
 use Rattle.ef_forms.proofs.Takes.{take_next}
+use Rattle.ef_lower.specs.LastCalls.{IsWithin}
 use Rattle.ef_lower.specs.Lowers.{Binds}
 use Rattle.ef_lower.specs.Ready.{AreReady, IsReady, IsReadyClause, bound_names}
 use Rattle.ef_lower.proofs.Faults.{Safer, from_left, nothing_left, nothing_right, safer_clauses, safer_faults, safer_more, safer_same, safer_ways, used_bound}
 use Rattle.ef_lower.proofs.Sizes.{counted, or_false}
 
 -- ---- more names
-
--- each name of the first set is one of the second
-abbrev pub IsWithin : NameSet → NameSet → Type 0
-IsWithin s t = (y : ℕ) → s y ≡ true → t y ≡ true
 
 pub grown_within : {texts : Texts} {env0 env1 : List Bind} (s : NameSet) → Binds texts env0 s env1 → IsWithin (bound_names env0) (bound_names env1)
 grown_within {texts} {env0} {env1} s b y here = b.named y ∙ from_left (bound_names env0 y) (s y) here

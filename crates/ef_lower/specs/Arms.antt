@@ -1,5 +1,5 @@
 -- What the clauses of a `case` are lowered to, and what is made of them.
-use Rattle.std.specs.Prelude.{ℕ, ◌≡◌, ◌<◌, ◌≤◌, ◌+◌, ◌*◌, List, [], ◌∷◌, ◌++◌, None, Some, codes, is_some, length, map}
+use Rattle.std.specs.Prelude.{ℕ, ◌≡◌, ◌<◌, ◌≤◌, ◌+◌, ◌*◌, ◌⊎◌, List, [], ◌∷◌, ◌++◌, None, Some, codes, is_some, length, map}
 use Rattle.std.specs.List.{filter}
 use Rattle.ef_base.specs.Texts.{Texts}
 use Rattle.ef_core.specs.declared.env.Bind.{Bind}
@@ -19,7 +19,7 @@ use Rattle.ef_forms.specs.Weight.{all_weight}
 use Rattle.ef_lower.specs.declared.arms.Arm.{Arm}
 use Rattle.ef_lower.specs.Exports.{GivesNames}
 use Rattle.ef_lower.specs.Lowers.{LowersBody}
-use Rattle.ef_lower.specs.Matches.{IsGuardOf, IsLastClause, IsPatternsOf}
+use Rattle.ef_lower.specs.Matches.{IsFrontOf, IsGuardOf, IsLastClause, IsPatternsOf}
 use Rattle.ef_meaning.specs.Cases.{AreHeld, names_of}
 use Rattle.ef_meaning.specs.Lowers.{env_from, params_from}
 
@@ -46,14 +46,9 @@ plain_arm a = record {
 
 -- the pattern and the guard of a clause; the names of the pattern go behind an environment
 pub record IsFront (texts : Texts) (e : source.ClauseTree) (n : ℕ) (env : List Bind) (m : ℕ) (env1 : List Bind) (made : PatTrees) (guard : CoreTree) : Type 0 where
-  pub tests : List Test
   pub binds : List Bind
-  -- how many variables are drawn behind the pattern
-  pub matched : ℕ
   pub bound : env1 ≡ env ++ binds
-  pub is_pattern : IsPatternsOf texts (source.trees e.patterns) n env made tests matched binds
-  pub is_guard : IsGuardOf texts tests guard
-  pub guard_drawn : DrawsAtMost 2 matched m
+  pub parts : IsFrontOf texts (source.trees e.patterns) n env m made guard binds
 
 module _ (texts : Texts) (defined : List FunctionName) (n : ℕ) (env : List Bind) where
   -- a clause is lowered behind an environment: its pattern, the guard of its tests, and its body with the pattern's names
@@ -120,16 +115,43 @@ pub record ArmsCanEnd (n : ℕ) (env : List Bind) (arms : List ArmTree) : Type 0
   pub room : Each (λ a. a.drawn < most_variables) arms
   pub enough : n + 5 + length (shared arms) ≤ most_variables
 
--- a step whose variables hold the value and the names that all arms bind
-pub record MakesCase (texts : Texts) (x : CoreTree) (arms : List ArmTree) (n : ℕ) (env : List Bind) (old : List StepTree) (m : ℕ) (env1 : List Bind) (new : List StepTree) (e : CoreTree) : Type 0 where
+-- the clauses of the arms, and the last one behind them
+pub record IsCaseOf (texts : Texts) (x : CoreTree) (arms : List ArmTree) (n m : ℕ) (e : CoreTree) : Type 0 where
   pub last : ClauseTree
   pub made : List ClauseTree
+  pub is_last : IsLastClause texts (codes "case_clause") n m last
+  pub in_range : m ≤ most_variables
+  pub finished : FinishesAll (shared arms) arms made
+  pub is : e ≡ c.case_of x (clauses (made ++ last ∷ []))
+
+-- a value is put behind the steps: the step's variables hold it and these names
+pub record PutsNamed (binds : List Bind) (value : CoreTree) (n : ℕ) (env : List Bind) (old : List StepTree) (m : ℕ) (env1 : List Bind) (new : List StepTree) (e : CoreTree) : Type 0 where
+  pub drawn : m ≡ n + 1 + length binds
+  pub in_range : m ≤ most_variables
+  pub bound : env1 ≡ env ++ env_from (n + 1) (names_of binds)
+  pub steps : new ≡ old ++ record { vars = Numbered n ∷ params_from (n + 1) (names_of binds); value = value } ∷ []
+  pub same : e ≡ c.var (Numbered n)
+
+-- a value and these names behind it: without names it stands for itself, and no step is put around it
+abbrev pub LeavesNames : List Bind → CoreTree → ℕ → List Bind → List StepTree → ℕ → List Bind → List StepTree → CoreTree → Type 0
+LeavesNames [] value n env old m env1 new e = (e ≡ value) × (m ≡ n) × (env1 ≡ env) × (new ≡ old)
+LeavesNames (b ∷ bs) value n env old m env1 new e = PutsNamed (b ∷ bs) value n env old m env1 new e
+
+-- there are names that all arms bind: a step holds the case and these names
+pub record HoldsCase (texts : Texts) (x : CoreTree) (arms : List ArmTree) (n : ℕ) (env : List Bind) (old : List StepTree) (m : ℕ) (env1 : List Bind) (new : List StepTree) (e : CoreTree) : Type 0 where
+  pub some : 1 ≤ length (shared arms)
   -- how many variables are drawn behind the last clause
   pub first : ℕ
-  pub is_last : IsLastClause texts (codes "case_clause") n first last
-  pub finished : FinishesAll (shared arms) arms made
-  pub drawn : m ≡ first + 1 + length (shared arms)
-  pub in_range : m ≤ most_variables
-  pub bound : env1 ≡ env ++ env_from (first + 1) (names_of (shared arms))
-  pub steps : new ≡ old ++ record { vars = Numbered first ∷ params_from (first + 1) (names_of (shared arms)); value = c.case_of x (clauses (made ++ last ∷ [])) } ∷ []
-  pub same : e ≡ c.var (Numbered first)
+  pub whole : CoreTree
+  pub is_case : IsCaseOf texts x arms n first whole
+  pub puts : PutsNamed (shared arms) whole first env old m env1 new e
+
+-- there are none: the case stands for itself
+pub record StandsAsCase (texts : Texts) (x : CoreTree) (arms : List ArmTree) (n : ℕ) (env : List Bind) (old : List StepTree) (m : ℕ) (env1 : List Bind) (new : List StepTree) (e : CoreTree) : Type 0 where
+  pub none : shared arms ≡ []
+  pub is_case : IsCaseOf texts x arms n m e
+  pub bound : env1 ≡ env
+  pub steps : new ≡ old
+
+abbrev pub MakesCase : Texts → CoreTree → List ArmTree → ℕ → List Bind → List StepTree → ℕ → List Bind → List StepTree → CoreTree → Type 0
+MakesCase texts x arms n env old m env1 new e = HoldsCase texts x arms n env old m env1 new e ⊎ StandsAsCase texts x arms n env old m env1 new e

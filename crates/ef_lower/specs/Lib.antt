@@ -1,5 +1,6 @@
 pub mod Ready
 pub mod Scope
+pub mod LastCalls
 pub mod Lowers
 pub mod Nodes
 pub mod Exports

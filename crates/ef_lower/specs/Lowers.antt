@@ -1,5 +1,5 @@
 -- What trees are lowered to: steps, and values behind them.
-use Rattle.std.specs.Prelude.{ℕ, ◌+◌, ◌*◌, ◌<◌, ◌≤◌, ◌≡◌, ◌||◌, ◌⊎◌, List, [], ◌∷◌, ◌++◌, length}
+use Rattle.std.specs.Prelude.{ℕ, ◌+◌, ◌*◌, ◌<◌, ◌≤◌, ◌≡◌, ◌||◌, ◌⊎◌, List, [], ◌∷◌, ◌++◌, length, map}
 use Rattle.ef_base.specs.Texts.{Texts}
 use Rattle.ef_core.specs.declared.env.Bind.{Bind}
 use Rattle.ef_core.specs.declared.literal.CoreVar.{CoreVar}
@@ -12,7 +12,9 @@ pub use Rattle.ef_core.specs.Fresh.{DrawsAtMost as Draws}
 use Rattle.ef_core.specs.LetForm.{IsSimple}
 pub use Rattle.ef_core.specs.Lowered.{IsLowered, lowered}
 use Rattle.ef_core.specs.Normal.{IsNoRun}
-use Rattle.ef_core.specs.Plain.{StepTree, steps}
+use Rattle.ef_core.specs.declared.tree.CoreExpr.{CoreExpr}
+use Rattle.ef_core.specs.declared.tree.LetStep.{LetStep}
+use Rattle.ef_core.specs.Plain.{StepTree, plain, plain_step, steps}
 use Rattle.ef_core.specs.Tree.{CoreTree, var, lets}
 use Rattle.ef_forms.specs.declared.tables.FunctionName.{FunctionName}
 use Rattle.ef_forms.specs.Depth.{all_depth}
@@ -22,6 +24,7 @@ use Rattle.ef_forms.specs.Sure.{all_sure}
 use Rattle.ef_forms.specs.Ways.{NameSet}
 use Rattle.ef_forms.specs.Weight.{all_weight}
 use Rattle.ef_meaning.specs.Lowers.{KeepsExpr, KeepsAll}
+use Rattle.ef_lower.specs.LastCalls.{StaysLast}
 use Rattle.ef_lower.specs.Ready.{IsReadableBind, bound_names}
 use Rattle.ef_lower.specs.Scope.{AreInScope}
 
@@ -104,6 +107,7 @@ module _ (texts : Texts) (defined : List FunctionName) where
   -- a tree is lowered to steps and a value
   pub record Lowers (e : Tree) (n0 : ℕ) (env0 : List Bind) (added : List StepTree) (n1 : ℕ) (env1 : List Bind) (value : CoreTree) : Type 0 where
     pub form : ValueForm texts defined (e ∷ []) n0 env0 added n1 env1 value
+    pub stays : StaysLast (bound_names env0) e value
     pub keeps : KeepsExpr texts e n0 env0 added n1 env1 value
 
   -- trees, one after another, to steps and arguments
@@ -122,3 +126,14 @@ module _ (texts : Texts) (defined : List FunctionName) where
     pub values : List CoreTree
     pub first_lowered : Adds old between (λ added. LowersAll front n0 env0 added n1 env1 values)
     pub last_lowered : Adds between new (λ added. Lowers last n1 env1 added n2 env2 value)
+
+  -- ---- the same, behind the steps that the code has
+
+  abbrev pub Appends : Tree → ℕ → List Bind → List LetStep → ℕ → List Bind → List LetStep → CoreExpr → Type 0
+  Appends e n0 env0 old n1 env1 new value = Adds (map plain_step old) (map plain_step new) (λ added. Lowers e n0 env0 added n1 env1 (plain value))
+
+  abbrev pub AppendsAll : List Tree → ℕ → List Bind → List LetStep → ℕ → List Bind → List LetStep → List CoreExpr → Type 0
+  AppendsAll es n0 env0 old n1 env1 new values = Adds (map plain_step old) (map plain_step new) (λ added. LowersAll es n0 env0 added n1 env1 (map plain values))
+
+  abbrev pub AppendsBody : List Tree → ℕ → List Bind → List LetStep → ℕ → List Bind → List LetStep → CoreExpr → Type 0
+  AppendsBody es n0 env0 old n1 env1 new value = LowersBody es n0 env0 (map plain_step old) (map plain_step new) n1 env1 (plain value)

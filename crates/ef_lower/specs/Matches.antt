@@ -56,6 +56,19 @@ pub record IsPatternsOf (texts : Texts) (ps : Trees) (n : ℕ) (bound : List Bin
   pub shallow : pats_depth made ≤ all_depth ps
   pub drawn : DrawsAtMost (50 * all_weight ps) n m
 
+-- the front of a clause: Core patterns, the guard of the tests beside them, and the names that they bind
+pub record IsFrontOf (texts : Texts) (ps : Trees) (n : ℕ) (env : List Bind) (m : ℕ) (made : PatTrees) (guard : CoreTree) (binds : List Bind) : Type 0 where
+  pub tests : List Test
+  -- how many variables are drawn behind the patterns
+  pub matched : ℕ
+  pub is_pattern : IsPatternsOf texts ps n env made tests matched binds
+  pub is_guard : IsGuardOf texts tests guard
+  pub guard_drawn : DrawsAtMost 2 matched m
+
+-- the clause of a front, which gives the values of the names
+abbrev pub match_clause : PatTrees → CoreTree → List Bind → ClauseTree
+match_clause made guard binds = record { pats = made; guard = guard; body = together (held_variables binds) }
+
 -- an error with the reason `{Why, Value}`, which a step puts into a variable
 pub record FailsWith (texts : Texts) (word : List ℕ) (z y : CoreVar) (e : CoreTree) : Type 0 where
   pub match_fail : Name

@@ -1,6 +1,9 @@
 -- Trees that can be lowered.
-use Rattle.std.specs.Prelude.{ℕ, ◌≡◌, ◌≤◌, List, [], ◌∷◌, codes, length}
+use Rattle.std.specs.Prelude.{ℕ, ◌≡◌, ◌≤◌, ◌+◌, ◌*◌, List, [], ◌∷◌, codes, length}
 use Rattle.ef_base.specs.Texts.{Texts}
+use Rattle.ef_core.specs.declared.env.Bind.{Bind}
+use Rattle.ef_core.specs.Everywhere.{Each}
+use Rattle.ef_core.specs.Fresh.{most_variables}
 pub use Rattle.ef_core.specs.Lowered.{IsReadableBind}
 use Rattle.ef_forms.specs.declared.tables.FunctionName.{FunctionName}
 use Rattle.ef_forms.specs.Tree.{Tree, Trees}
@@ -8,6 +11,7 @@ use Rattle.ef_forms.specs.Built.{IsBuiltTree, AreBuilt, ArePatterns, IsNarrow, A
 use Rattle.ef_forms.specs.OfTable.{TreeOf, TreesOf}
 use Rattle.ef_forms.specs.Plain.{ClauseTree, trees}
 use Rattle.ef_forms.specs.Ways.{NameSet, union, all_names, faults, all_faults, body_faults}
+use Rattle.ef_meaning.specs.Lowers.{AreBelow}
 pub use Rattle.ef_meaning.specs.Named.{bound_names}
 
 -- the tree is built, its names are of the table, and its variables are among the bound names
@@ -35,6 +39,12 @@ pub record IsReadyClause (texts : Texts) (defined : List FunctionName) (bound : 
   pub narrow : AreNarrow (trees c.body)
   pub of_table : TreesOf texts (trees c.body)
   pub no_faults : body_faults texts (trees c.body) (union bound (all_names (trees c.patterns)) ∷ []) ≡ []
+
+-- the variables of the environment were drawn before, and there are as many left as this weight takes
+pub record HasPlace (texts : Texts) (n : ℕ) (env : List Bind) (weight : ℕ) : Type 0 where
+  pub readable : Each (IsReadableBind texts) env
+  pub below : AreBelow n env
+  pub enough : n + 500 * weight ≤ most_variables
 
 -- the texts that are named in what trees are lowered to
 abbrev pub lower_words : List (List ℕ)

@@ -1,8 +1,6 @@
 // Expressions as let steps, and the value behind them.
-ghost use Rattle.std.specs.Prelude.{◌≡◌, ◌+◌, ◌*◌, ◌≤◌, ◌∷◌, [], IfOk, OnOk, List, length, map};
+ghost use Rattle.std.specs.Prelude.{◌≡◌, ◌≤◌, ◌∷◌, [], IfOk, OnOk, List, length, map};
 ghost use Rattle.ef_core.specs.Everywhere.{Each};
-ghost use Rattle.ef_core.specs.Fresh.{most_variables};
-ghost use Rattle.ef_core.specs.Plain as core;
 ghost use Rattle.ef_forms.specs.Built.{AreBuilt, AreNarrow, IsAtom};
 ghost use Rattle.ef_forms.specs.OfTable.{TreesOf};
 ghost use Rattle.ef_forms.specs.Plain.{plain, plain_all, plain_clause, plain_clauses};
@@ -11,9 +9,8 @@ ghost use Rattle.ef_forms.specs.Ways.{body_faults};
 ghost use Rattle.ef_forms.specs.Weight.{all_weight, clauses_weight, weight};
 ghost use Rattle.ef_lowpat.specs.Guards.{HoldsWords};
 ghost use Rattle.ef_lower.specs.Arms.{AreArms, IsArm, plain_arm};
-ghost use Rattle.ef_lower.specs.Lowers.{Adds, Lowers, LowersAll, LowersBody};
-ghost use Rattle.ef_lower.specs.Ready.{AreReady, IsReadableBind, IsReady, IsReadyClause, bound_names, lower_words};
-ghost use Rattle.ef_meaning.specs.Lowers.{AreBelow};
+ghost use Rattle.ef_lower.specs.Lowers.{Appends, AppendsAll, AppendsBody};
+ghost use Rattle.ef_lower.specs.Ready.{AreReady, HasPlace, IsReady, IsReadyClause, bound_names, lower_words};
 
 use crate::arms::Arm;
 use crate::cases::choose;
@@ -40,10 +37,8 @@ pub fn append(
 ) -> Result<CoreExpr, NoMemory>
     requires words { HoldsWords names.now lower_words }
     requires ready { IsReady names.now tables.now.functions.items (bound_names env.old) (plain expr.now) }
-    requires readable { Each (IsReadableBind names.now) env.old }
-    requires below { AreBelow fresh.old env.old }
-    requires enough { fresh.old + 500 * weight (plain expr.now) ≤ most_variables }
-    ensures { IfOk result (λ v. Adds (map core.plain_step steps.old.items) (map core.plain_step steps.new.items) (λ added. Lowers names.now tables.now.functions.items (plain expr.now) fresh.old env.old added fresh.new env.new (core.plain v))) }
+    requires place { HasPlace names.now fresh.old env.old (weight (plain expr.now)) }
+    ensures { IfOk result (λ v. Appends names.now tables.now.functions.items (plain expr.now) fresh.old env.old steps.old.items fresh.new env.new steps.new.items v) }
 {
     match &expr.node {
         Node::Int(value) => Ok(integer(*value)),
@@ -102,10 +97,8 @@ fn append_all(
 ) -> Result<Vec<CoreExpr>, NoMemory>
     requires words { HoldsWords names.now lower_words }
     requires ready { AreReady names.now tables.now.functions.items (bound_names env.old) (plain_all exprs.now) }
-    requires readable { Each (IsReadableBind names.now) env.old }
-    requires below { AreBelow fresh.old env.old }
-    requires enough { fresh.old + 500 * all_weight (plain_all exprs.now) ≤ most_variables }
-    ensures { IfOk result (λ vs. Adds (map core.plain_step steps.old.items) (map core.plain_step steps.new.items) (λ added. LowersAll names.now tables.now.functions.items (map plain exprs.now) fresh.old env.old added fresh.new env.new (map core.plain vs.items))) }
+    requires place { HasPlace names.now fresh.old env.old (all_weight (plain_all exprs.now)) }
+    ensures { IfOk result (λ vs. AppendsAll names.now tables.now.functions.items (map plain exprs.now) fresh.old env.old steps.old.items fresh.new env.new steps.new.items vs.items) }
 {
     let mut values = Vec::new(alloc);
     for expr in exprs {
@@ -131,11 +124,9 @@ pub fn append_body(
     requires built { AreBuilt names.now tables.now.functions.items (plain_all exprs.now) }
     requires narrow { AreNarrow (plain_all exprs.now) }
     requires of_table { TreesOf names.now (plain_all exprs.now) }
-    requires readable { Each (IsReadableBind names.now) env.old }
     requires no_faults { body_faults names.now (plain_all exprs.now) (bound_names env.old ∷ []) ≡ [] }
-    requires below { AreBelow fresh.old env.old }
-    requires enough { fresh.old + 500 * all_weight (plain_all exprs.now) ≤ most_variables }
-    ensures { IfOk result (λ v. LowersBody names.now tables.now.functions.items (map plain exprs.now) fresh.old env.old (map core.plain_step steps.old.items) (map core.plain_step steps.new.items) fresh.new env.new (core.plain v)) }
+    requires place { HasPlace names.now fresh.old env.old (all_weight (plain_all exprs.now)) }
+    ensures { IfOk result (λ v. AppendsBody names.now tables.now.functions.items (map plain exprs.now) fresh.old env.old steps.old.items fresh.new env.new steps.new.items v) }
 {
     let last = exprs.len() - 1;
     for expr in &exprs[..last] {
@@ -157,9 +148,7 @@ fn arms(
 ) -> Result<Vec<Arm>, NoMemory>
     requires words { HoldsWords names.now lower_words }
     requires ready { Each (λ c. IsReadyClause names.now tables.now.functions.items (bound_names env.old) (plain_clause c)) clauses.now }
-    requires readable { Each (IsReadableBind names.now) env.old }
-    requires below { AreBelow fresh.now env.old }
-    requires enough { fresh.now + 500 * clauses_weight (plain_clauses clauses.now) ≤ most_variables }
+    requires place { HasPlace names.now fresh.now env.old (clauses_weight (plain_clauses clauses.now)) }
     ensures same { OnOk result (env.new ≡ env.old) }
     ensures arms { IfOk result (λ as'. AreArms names.now tables.now.functions.items fresh.now env.old (map plain_clause clauses.now) (map plain_arm as'.items)) }
 {
@@ -182,9 +171,7 @@ fn arm(
 ) -> Result<Arm, NoMemory>
     requires words { HoldsWords names.now lower_words }
     requires ready { IsReadyClause names.now tables.now.functions.items (bound_names env.old) (plain_clause clause.now) }
-    requires readable { Each (IsReadableBind names.now) env.old }
-    requires below { AreBelow fresh.now env.old }
-    requires enough { fresh.now + 500 * clauses_weight (plain_clauses (clause.now ∷ [])) ≤ most_variables }
+    requires place { HasPlace names.now fresh.now env.old (clauses_weight (plain_clauses (clause.now ∷ []))) }
     ensures same { OnOk result (env.new ≡ env.old) }
     ensures arm { IfOk result (λ a. IsArm names.now tables.now.functions.items fresh.now env.old (plain_clause clause.now) (plain_arm a)) }
 {

@@ -1,4 +1,4 @@
-// The front of a clause: its pattern and its guard.
+// The front of a clause: its patterns and its guard.
 ghost use Rattle.std.specs.Prelude.{◌+◌, ◌*◌, ◌≤◌, IfOk};
 ghost use Rattle.ef_core.specs.Everywhere.{Each};
 ghost use Rattle.ef_core.specs.Fresh.{most_variables};
@@ -7,16 +7,18 @@ ghost use Rattle.ef_core.specs.Plain.{plain, plain_pats};
 ghost use Rattle.ef_forms.specs.Built.{ArePatterns};
 ghost use Rattle.ef_forms.specs.OfTable.{TreesOf};
 ghost use Rattle.ef_forms.specs.Plain as source;
+ghost use Rattle.ef_forms.specs.Plain.{plain_all};
 ghost use Rattle.ef_forms.specs.Weight.{all_weight};
 ghost use Rattle.ef_lowpat.specs.Guards.{HoldsWords};
 ghost use Rattle.ef_lower.specs.Arms.{IsFront};
+ghost use Rattle.ef_lower.specs.Matches.{IsFrontOf};
 ghost use Rattle.ef_lower.specs.Ready.{lower_words};
 ghost use Rattle.ef_meaning.specs.Lowers.{AreBelow};
 
 use crate::binds::bind_all;
 use ef_base::{Names, NoMemory};
-use ef_core::{CoreExpr, CorePat, Env, Fresh, Lowered};
-use ef_forms::Clause;
+use ef_core::{Bind, CoreExpr, CorePat, Env, Fresh, Lowered};
+use ef_forms::{Clause, Expr};
 use ef_lowpat::{guard, pattern};
 use std::alloc::Global;
 
@@ -25,6 +27,13 @@ use std::alloc::Global;
 pub struct Front {
     pub pats: Vec<CorePat>,
     pub guard: CoreExpr,
+}
+
+/// A front, and the names that its patterns bind.
+#[derive(Drop)]
+pub struct BindingFront {
+    pub front: Front,
+    pub binds: Vec<Bind>,
 }
 
 /// The front of a clause. The names of its pattern are bound now.
@@ -43,9 +52,31 @@ pub fn front_of(
     requires enough { fresh.old + 50 * all_weight (source.trees (source.plain_clause clause.now).patterns) + 2 ≤ most_variables }
     ensures { IfOk result (λ f. IsFront names.now (source.plain_clause clause.now) fresh.old env.old fresh.new env.new (plain_pats f.pats.items) (plain f.guard)) }
 {
-    let lowered = pattern(alloc, names, fresh, &clause.patterns, env, env)?;
+    let made = binding_front(alloc, names, &clause.patterns, env, fresh)?;
+    let BindingFront { front, binds } = made;
+    bind_all(&binds, env)?;
+    Ok(front)
+}
+
+/// The front of a clause with these patterns, behind an environment.
+pub fn binding_front(
+    alloc: Global,
+    names: &Names,
+    pats: &[Expr],
+    env: &Env,
+    fresh: &mut Fresh,
+) -> Result<BindingFront, NoMemory>
+    requires words { HoldsWords names.now lower_words }
+    requires patterns { ArePatterns (plain_all pats.now) }
+    requires of_table { TreesOf names.now (plain_all pats.now) }
+    requires readable { Each (IsReadableBind names.now) env.now }
+    requires below { AreBelow fresh.old env.now }
+    requires enough { fresh.old + 50 * all_weight (plain_all pats.now) + 2 ≤ most_variables }
+    ensures { IfOk result (λ f. IsFrontOf names.now (plain_all pats.now) fresh.old env.now fresh.new (plain_pats f.front.pats.items) (plain f.front.guard) f.binds.items) }
+{
+    let lowered = pattern(alloc, names, fresh, pats, env, env)?;
     let Lowered { pats, tests, binds } = lowered;
     let guard = guard(alloc, names, fresh, &tests)?;
-    bind_all(&binds, env)?;
-    Ok(Front { pats, guard })
+    let front = Front { pats, guard };
+    Ok(BindingFront { front, binds })
 }

@@ -12,9 +12,8 @@ mod lower;
 mod matches;
 mod nodes;
 mod steps;
-#[cfg(test)]
-mod tests;
 mod values;
 
+pub use front::{BindingFront, Front, binding_front};
 pub use lower::{LoweredExpr, body, closed_body, expression};
 pub use values::together;

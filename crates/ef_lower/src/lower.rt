@@ -10,10 +10,12 @@ ghost use Rattle.ef_forms.specs.Depth.{all_depth, depth};
 ghost use Rattle.ef_forms.specs.OfTable.{TreeOf, TreesOf};
 ghost use Rattle.ef_forms.specs.Plain.{plain, plain_all};
 ghost use Rattle.ef_forms.specs.Sure.{all_sure, sure};
+ghost use Rattle.ef_forms.specs.Tree.{end, more};
 ghost use Rattle.ef_forms.specs.Ways.{body_faults, faults};
 ghost use Rattle.ef_forms.specs.Weight.{all_weight, weight};
 ghost use Rattle.ef_lowpat.specs.Guards.{HoldsWords};
 ghost use Rattle.ef_lower.specs.Exports.{IsExported};
+ghost use Rattle.ef_lower.specs.LastCalls.{KeepsLastCalls};
 ghost use Rattle.ef_lower.specs.Lowers.{Draws, IsLowered};
 ghost use Rattle.ef_lower.specs.Ready.{IsReadableBind, bound_names, lower_words};
 ghost use Rattle.ef_lower.specs.Scope.{IsInScope};
@@ -53,6 +55,7 @@ pub fn expression(
     ensures shallow { IfOk result (λ r. deep.depth (core.plain r.core) + 1 ≤ 16 * depth (plain expr.now)) }
     ensures exports { IfOk result (λ r. IsExported env.now (sure (plain expr.now)) r.exports.items) }
     ensures drawn { IfOk result (λ r. Draws (500 * weight (plain expr.now)) fresh.old fresh.new) }
+    ensures last_calls { IfOk result (λ r. r.exports.items ≡ [] → KeepsLastCalls (bound_names env.now) (more (plain expr.now) end) (core.plain r.core)) }
     ensures means { IfOk result (λ r. KeepsBody names.new (plain expr.now ∷ []) env.now r.exports.items (core.plain r.core)) }
 {
     let mut own = env.copy(alloc)?;
@@ -87,6 +90,7 @@ pub fn body(
     ensures shallow { IfOk result (λ r. deep.depth (core.plain r.core) + 1 ≤ 16 * all_depth (plain_all exprs.now)) }
     ensures exports { IfOk result (λ r. IsExported env.now (all_sure (plain_all exprs.now)) r.exports.items) }
     ensures drawn { IfOk result (λ r. Draws (500 * all_weight (plain_all exprs.now)) fresh.old fresh.new) }
+    ensures last_calls { IfOk result (λ r. r.exports.items ≡ [] → KeepsLastCalls (bound_names env.now) (plain_all exprs.now) (core.plain r.core)) }
     ensures means { IfOk result (λ r. KeepsBody names.new (map plain exprs.now) env.now r.exports.items (core.plain r.core)) }
 {
     let mut own = env.copy(alloc)?;
@@ -120,6 +124,7 @@ pub fn closed_body(
     ensures in_scope { IfOk result (λ e. IsInScope names.old tables.now.functions.items env (core.plain e)) }
     ensures shallow { IfOk result (λ e. deep.depth (core.plain e) + 1 ≤ 16 * all_depth (plain_all exprs.now)) }
     ensures drawn { IfOk result (λ e. Draws (500 * all_weight (plain_all exprs.now)) fresh.old fresh.new) }
+    ensures last_calls { IfOk result (λ e. KeepsLastCalls (bound_names env) (plain_all exprs.now) (core.plain e)) }
     ensures means { IfOk result (λ e. KeepsBody names.new (map plain exprs.now) env [] (core.plain e)) }
 {
     let mut steps = Vec::new(alloc);

@@ -5,28 +5,29 @@ ghost use Rattle.ef_core.specs.Env.{NamesDiffer, held};
 ghost use Rattle.ef_core.specs.Everywhere.{Each};
 ghost use Rattle.ef_core.specs.Fresh.{most_variables};
 ghost use Rattle.ef_core.specs.Lowered.{IsReadableBind};
-ghost use Rattle.ef_core.specs.Plain.{plain_clause, plain_step};
+ghost use Rattle.ef_core.specs.Plain.{clauses, plain_clause, plain_pats, plain_step};
 ghost use Rattle.ef_core.specs.Plain as core;
 ghost use Rattle.ef_core.specs.declared.literal.CoreVar.TheVariants.{Numbered};
+ghost use Rattle.ef_core.specs.Tree as c;
 ghost use Rattle.ef_forms.specs.Built.{IsPattern};
 ghost use Rattle.ef_forms.specs.OfTable.{TreeOf};
 ghost use Rattle.ef_forms.specs.Plain.{plain};
 ghost use Rattle.ef_forms.specs.Tree as t;
 ghost use Rattle.ef_forms.specs.Weight.{weight};
 ghost use Rattle.ef_lowpat.specs.Guards.{HoldsWords};
-ghost use Rattle.ef_lower.specs.Matches.{FailsWith, IsLastClause, IsMatchStep, Matches};
+ghost use Rattle.ef_lower.specs.Matches.{FailsWith, IsLastClause, IsMatchStep, Matches, match_clause};
 ghost use Rattle.ef_lower.specs.Ready.{lower_words};
 ghost use Rattle.ef_meaning.specs.Cases.{names_of};
 ghost use Rattle.ef_meaning.specs.Lowers.{AreBelow, env_from, params_from};
 
 use crate::binds::rename;
+use crate::front::{BindingFront, Front, binding_front};
 use crate::last::last_clause;
 use crate::steps::in_variable;
 use crate::values::{push_variables, together};
 use ef_base::{Name, Names, NoMemory};
-use ef_core::{CoreClause, CoreExpr, CoreVar, Env, Fresh, LetStep, Lowered};
+use ef_core::{CoreClause, CoreExpr, CoreVar, Env, Fresh, LetStep};
 use ef_forms::{Expr, Node};
-use ef_lowpat::{guard, pattern};
 use std::alloc::Global;
 use std::slice::from_ref;
 
@@ -103,22 +104,56 @@ fn match_step(
     requires enough { fresh.old + 51 * weight (plain pat.now) + 6 ≤ most_variables }
     ensures { IfOk result (λ s. IsMatchStep names.now (plain pat.now) var fresh.old env.old fresh.new env.new (plain_step s)) }
 {
-    let lowered = pattern(alloc, names, fresh, from_ref(pat), env, env)?;
-    let Lowered { pats, tests, binds } = lowered;
-    let test = guard(alloc, names, fresh, &tests)?;
+    let made = binding_front(alloc, names, from_ref(pat), env, fresh)?;
     let last = last_clause(alloc, names, fresh, "badmatch")?;
-    let mut values = Vec::new(alloc);
-    push_variables(&mut values, &binds)?;
-    let first = CoreClause {
-        pats,
-        guard: test,
-        body: together(values),
-    };
     let mut vars = Vec::new(alloc);
-    rename(&mut vars, &binds, env, fresh)?;
-    let value = CoreExpr::Case {
-        arg: Box::new(alloc, CoreExpr::Var(var))?,
-        clauses: vec![in alloc; first, last]?,
-    };
+    rename(&mut vars, &made.binds, env, fresh)?;
+    let value = match_case(alloc, var, made, last)?;
     Ok(LetStep { vars, value })
+}
+
+// The values of the names, where the front takes the variable's value; else the last clause.
+fn match_case(
+    alloc: Global,
+    var: CoreVar,
+    made: BindingFront,
+    last: CoreClause,
+) -> Result<CoreExpr, NoMemory>
+    ensures { IfOk result (λ e. core.plain e ≡ c.case_of (c.var var) (clauses (match_clause (plain_pats made.front.pats.items) (core.plain made.front.guard) made.binds.items ∷ plain_clause last ∷ []))) }
+{
+    let first = names_clause(alloc, made)?;
+    let clauses = both(alloc, first, last)?;
+    Ok(over_variable(alloc, var, clauses)?)
+}
+
+// A clause that gives the values of the names.
+fn names_clause(alloc: Global, made: BindingFront) -> Result<CoreClause, NoMemory>
+    ensures { IfOk result (λ k. plain_clause k ≡ match_clause (plain_pats made.front.pats.items) (core.plain made.front.guard) made.binds.items) }
+{
+    let mut values = Vec::new(alloc);
+    push_variables(&mut values, &made.binds)?;
+    let Front { pats, guard } = made.front;
+    Ok(CoreClause {
+        pats,
+        guard,
+        body: together(values),
+    })
+}
+
+fn both(alloc: Global, first: CoreClause, last: CoreClause) -> Result<Vec<CoreClause>, NoMemory>
+    ensures { IfOk result (λ cs. cs.items ≡ first ∷ last ∷ []) }
+{
+    Ok(vec![in alloc; first, last]?)
+}
+
+#[tactic(auto, using(ef_core::specs::Laws::plain_laws))]
+fn over_variable(
+    alloc: Global,
+    var: CoreVar,
+    clauses: Vec<CoreClause>,
+) -> Result<CoreExpr, NoMemory>
+    ensures { IfOk result (λ e. core.plain e ≡ c.case_of (c.var var) (core.plain_clauses clauses.items)) }
+{
+    let arg = Box::new(alloc, CoreExpr::Var(var))?;
+    Ok(CoreExpr::Case { arg, clauses })
 }

@@ -12,7 +12,7 @@ use Rattle.ef_core.specs.declared.literal.FName.{FName}
 use Rattle.ef_core.proofs.HoldsLaws.{each_same}
 use Rattle.ef_core.specs.Conditions.{MeetsConditions, NoneTwice, conditions, defined}
 use Rattle.ef_core.specs.Everywhere.{AllHold, DefHolds, Each, LitHolds}
-use Rattle.ef_core.specs.LetForm.{AreSimple}
+use Rattle.ef_core.specs.LetForm.{AreSimple, IsLetForm}
 use Rattle.ef_core.specs.Lowered.{IsLowered, lowered}
 use Rattle.ef_core.specs.OfTable.{CoreModuleOf}
 use Rattle.ef_core.specs.Readable.{IsReadable, readable}
@@ -28,8 +28,10 @@ use Rattle.ef_lower.specs.Scope.{HasFunctions, core_name}
 use Rattle.ef_lowmod.specs.declared.info.Fixed.{Fixed}
 use Rattle.ef_lowmod.specs.Function.{AreLowered, IsLoweredFunction}
 use Rattle.ef_lowmod.specs.Info.{AreFixed, fname, info_def, item_def}
+use Rattle.ef_lowmod.specs.Form.{AreShallow, HasLetForm, IsShallowFor}
 use Rattle.ef_lowmod.specs.Outline.{Outline, is_other}
-use Rattle.ef_lowmod.proofs.Lowered.{atom_lowered, lowered_conditions, lowered_readable, text_within, variable_lowered}
+use Rattle.ef_lowmod.specs.Whole.{IsLoweredModule}
+use Rattle.ef_lowmod.proofs.Lowered.{atom_lowered, lowered_conditions, lowered_let_form, lowered_readable, text_within, variable_lowered}
 use Rattle.ef_lowmod.proofs.Numbered.{numbered_readable, numbered_differ}
 
 -- ---- lists
@@ -68,6 +70,19 @@ lowered_names all fs [] [] is = refl
 lowered_names all fs [] (d ∷ ds) is = absurd is
 lowered_names all fs (g ∷ gs) [] is = absurd is
 lowered_names all fs (g ∷ gs) (d ∷ ds) is = λ i. is.0.name i ∷ lowered_names all fs gs ds is.1 i
+
+-- in the order of the source
+pub lowered_in_order : (all : Texts) (fs : List FName) (gs : List FunctionTree) (ds : List DefTree) → AreLowered all fs gs ds → map (λ (d : DefTree). d.name) ds ≡ map (λ (f : FunctionTree). fname f.name f.arity) gs
+lowered_in_order all fs [] [] is = refl
+lowered_in_order all fs [] (d ∷ ds) is = absurd is
+lowered_in_order all fs (g ∷ gs) [] is = absurd is
+lowered_in_order all fs (g ∷ gs) (d ∷ ds) is = λ i. is.0.name i ∷ lowered_in_order all fs gs ds is.1 i
+
+lowered_shallow : (all : Texts) (fs : List FName) (gs : List FunctionTree) (ds behind : List DefTree) → AreLowered all fs gs ds → AreShallow gs (ds ++ behind)
+lowered_shallow all fs [] [] behind is = tt
+lowered_shallow all fs [] (d ∷ ds) behind is = absurd is
+lowered_shallow all fs (g ∷ gs) [] behind is = absurd is
+lowered_shallow all fs (g ∷ gs) (d ∷ ds) behind is = (is.0.shallow, lowered_shallow all fs gs ds behind is.1)
 
 -- no function of the source is one of the two
 no_info : (all : Texts) (functions : List FunctionName) (gs : List FunctionTree) → forms.Each (IsBuiltFunction all functions) gs → Each (λ k. IsModuleInfo all k → ⊥) (map key_of gs)
@@ -202,7 +217,10 @@ item_readable all fs fixed m are_fixed named = record {
 
 -- ---- the module
 
-module _ (all : Texts) (m : ModuleTree) (t : CoreModuleTree) (outline : Outline all m t) where
+module _ (all : Texts) (m : ModuleTree) (t : CoreModuleTree) (whole : IsLoweredModule all m t) where
+  abbrev outline : Outline all m t
+  outline = whole.outline
+
   abbrev names : List FName
   names = map core_name (defined_in m.forms) ++ infos outline.fixed
 
@@ -211,14 +229,14 @@ module _ (all : Texts) (m : ModuleTree) (t : CoreModuleTree) (outline : Outline 
       let both : List DefTree = info_def outline.fixed m.name ∷ item_def outline.fixed m.name ∷ [] in
       ap (map (λ (d : DefTree). d.name)) outline.defs
       ∙ map-append (λ (d : DefTree). d.name) outline.functions both
-      ∙ ap (λ l. l ++ infos outline.fixed) (lowered_names all (defined all t) (functions_in m.forms) outline.functions outline.in_order)
+      ∙ ap (λ l. l ++ infos outline.fixed) (lowered_names all (defined all t) (functions_in m.forms) outline.functions whole.functions)
 
   defs_readable : HasName all m.name → Each (IsReadableDef all (defined all t)) t.defs
   defs_readable named =
       let both : List DefTree = info_def outline.fixed m.name ∷ item_def outline.fixed m.name ∷ [] in
       subst (Each (IsReadableDef all (defined all t))) (sym outline.defs)
       (each_join (IsReadableDef all (defined all t)) outline.functions both
-      (functions_readable all (defined all t) (functions_in m.forms) outline.functions outline.in_order)
+      (functions_readable all (defined all t) (functions_in m.forms) outline.functions whole.functions)
       (info_readable all (defined all t) outline.fixed m.name outline.are_fixed named, (item_readable all (defined all t) outline.fixed m.name outline.are_fixed named, tt)))
 
   meets : IsBuilt all m → Each (IsReadableDef all (defined all t)) t.defs → MeetsConditions all t
@@ -238,8 +256,8 @@ module _ (all : Texts) (m : ModuleTree) (t : CoreModuleTree) (outline : Outline 
     in_scope = each_same (IsReadableDef all (defined all t)) (λ d. InScope d.params (defined all t) d.body) (λ d is. is.in_scope) t.defs defs;
   }
 
-  pub outline_readable : IsBuilt all m → HasName all m.name → CoreModuleOf all t → IsReadable all t
-  outline_readable built named of_table =
+  pub module_readable : IsBuilt all m → HasName all m.name → CoreModuleOf all t → IsReadable all t
+  module_readable built named of_table =
       let defs : Each (IsReadableDef all (defined all t)) t.defs = defs_readable named in
       record {
         parts = record {
@@ -250,6 +268,13 @@ module _ (all : Texts) (m : ModuleTree) (t : CoreModuleTree) (outline : Outline 
         parameters = each_same (IsReadableDef all (defined all t)) (λ d. Matches d.name d.params) (λ d is. is.matches) t.defs defs;
         conditions = meets built defs;
       }
+
+  pub module_let_form : HasName all m.name → HasLetForm t
+  module_let_form named =
+      each_same (IsReadableDef all (defined all t)) (λ d. IsLetForm d.body) (λ d is. lowered_let_form all d.body is.body) t.defs (defs_readable named)
+
+  pub module_shallow : IsShallowFor m t
+  module_shallow = subst (AreShallow (functions_in m.forms)) (sym outline.defs) (lowered_shallow all (defined all t) (functions_in m.forms) outline.functions _ whole.functions)
 
 -- the functions are in scope of one another, where they are so wherever the names that the source may call are
 pub lowered_together : (all : Texts) (fixed : Fixed) (m : Name) (ks : List FunctionName) (gs : List FunctionTree) (ds defs : List DefTree) → AreFixed all fixed → AllDiffer all → ks ≡ map key_of gs → defs ≡ ds ++ (info_def fixed m ∷ item_def fixed m ∷ []) → ((fs : List FName) → HasFunctions all ks fs → AreLowered all fs gs ds) → AreLowered all (map (λ (d : DefTree). d.name) defs) gs ds

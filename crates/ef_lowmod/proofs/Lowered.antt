@@ -7,6 +7,7 @@ use Rattle.ef_core.proofs.HoldsLaws.{holds_map, pats_hold_map}
 use Rattle.ef_core.proofs.ReadLater.{expr_later, pat_later, literal_later, variable_later, condition_later, pat_right_later}
 use Rattle.ef_core.specs.Conditions.{conditions}
 use Rattle.ef_core.specs.Everywhere.{Holds, PatsHold}
+use Rattle.ef_core.specs.LetForm.{IsLetForm, let_form}
 use Rattle.ef_core.specs.OfTable.{CoreOf, of_table}
 use Rattle.ef_core.specs.Readable.{readable}
 use Rattle.ef_core.specs.Tree.{CoreTree, PatTrees, atom, lit, var}
@@ -32,6 +33,9 @@ module _ (all : Texts) where
 
   pub lowered_conditions : (e : CoreTree) → IsLowered all e → Holds (conditions all) e
   lowered_conditions = holds_map (lowered all) (conditions all) (λ e is. is.1.1) (λ p is. is.1.1) (λ l is. is.1.1) (λ v is. is.1.1)
+
+  pub lowered_let_form : (e : CoreTree) → IsLowered all e → IsLetForm e
+  lowered_let_form = holds_map (lowered all) let_form (λ e is. is.0) (λ p is. is.0) (λ l is. is.0) (λ v is. is.0)
 
   pub lowered_of_table : (e : CoreTree) → IsLowered all e → CoreOf all e
   lowered_of_table = holds_map (lowered all) (of_table all) (λ e is. is.1.0.1.1) (λ p is. is.1.0.1.1) (λ l is. is.1.0.1.1) (λ v is. is.1.0.1.1)

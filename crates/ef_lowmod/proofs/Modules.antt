@@ -25,7 +25,8 @@ use Rattle.ef_lowmod.specs.declared.info.Fixed.{Fixed}
 use Rattle.ef_lowmod.specs.Exports.{is_other_by}
 use Rattle.ef_lowmod.specs.Function.{AreLowered, HasNoFault, IsLight, IsLoweredForm, IsNarrowFunction, IsReadyFunction, IsWhole}
 use Rattle.ef_lowmod.specs.Info.{fname, info_def, item_def}
-use Rattle.ef_lowmod.specs.Outline.{Outline, is_other}
+use Rattle.ef_lowmod.specs.Outline.{is_other}
+use Rattle.ef_lowmod.specs.Whole.{IsLoweredModule}
 use Rattle.ef_lowmod.proofs.Later.{clauses_later, each_def, functions_later}
 
 -- ---- lists
@@ -184,9 +185,10 @@ defs_named : (all : Texts) (ds es : List DefTree) → core.Each (DefOf all) ds �
 defs_named all [] es left right = right
 defs_named all (d ∷ ds) es left right = (left.0, defs_named all ds es left.1 right)
 
--- all names of an outlined module are of the table
-pub outline_named : (all : Texts) (m : ModuleTree) (t : CoreModuleTree) → Outline all m t → HasName all m.name → Each (λ f. HasName all f.name) (exports_in m.forms) → CoreModuleOf all t
-outline_named all m t outline named exported =
+-- all names of a lowered module are of the table
+pub module_named : (all : Texts) (m : ModuleTree) (t : CoreModuleTree) → IsLoweredModule all m t → HasName all m.name → Each (λ f. HasName all f.name) (exports_in m.forms) → CoreModuleOf all t
+module_named all m t whole named exported =
+    let outline = whole.outline in
     let info = outline.are_fixed.module_info.within in
     let erlang = outline.are_fixed.erlang.within in
     let get = outline.are_fixed.get_module_info.within in (
@@ -194,6 +196,6 @@ outline_named all m t outline named exported =
       subst (core.Each (FNameOf all)) (sym outline.exports) (exported_named all (is_other all) (exports_in m.forms) outline.fixed.module_info exported info),
       subst (core.Each (AttributeOf all)) (sym outline.attributes) tt,
       subst (core.Each (DefOf all)) (sym outline.defs)
-          (defs_named all outline.functions (info_def outline.fixed m.name ∷ item_def outline.fixed m.name ∷ []) (each_def all (defined all t) (functions_in m.forms) outline.functions outline.in_order)
+          (defs_named all outline.functions (info_def outline.fixed m.name ∷ item_def outline.fixed m.name ∷ []) (each_def all (defined all t) (functions_in m.forms) outline.functions whole.functions)
           ((info, (tt, (tt, (tt, erlang), (tt, get), ((tt, named), tt)))), ((info, ((tt, tt), (tt, (tt, erlang), (tt, get), ((tt, named), ((tt, tt), tt))))), tt))),
     )

@@ -30,7 +30,7 @@ use Rattle.ef_meaning.specs.Source.{by_clauses}
 use Rattle.ef_meaning.specs.Core as core
 use Rattle.ef_meaning.specs.Core.{Vars}
 use Rattle.ef_meaning.specs.Lowers.{AreBelow, Describes, Exports, IsBelow, KeepsBody, KeepsFunction, Related, SameValue}
-use Rattle.ef_meaning.proofs.Bodies.{below_push, describes_push, not_bound, one_export}
+use Rattle.ef_meaning.proofs.Bodies.{below_push, clause_keeps, describes_push, not_bound, one_export}
 use Rattle.ef_meaning.proofs.Simulate.{keeps_same, map_keeps}
 use Rattle.ef_meaning.proofs.Steps.{eval_steady}
 use Rattle.ef_meaning.proofs.Variables.{are_below_more, describes_more}
@@ -125,7 +125,7 @@ matched all n (suc k) env (more (tree p (var x)) ps) (v ∷ vs) b d are number d
     (below_push n env x below) (describes_push n env b d x v below free q) (omega arith) in (
       next.0,
       next.1,
-      ap (λ o. with_some (match_name x o v b) (λ c. match_values all ps (values_of vs) c)) (not_bound env b d x q free) ∙ next.2,
+      ◌∙◌ {c = Some next.0} (ap (λ o. with_some (match_name x o v b) (λ c. match_values all ps (values_of vs) c)) (not_bound env b d x q free)) next.2,
       next.3,
       subst (λ e. Describes e next.0 next.1) seam next.4,
     )
@@ -141,11 +141,11 @@ parameters_keep now p ps k es body are number differ keeps = record {
   bodies = keeps.bodies;
   keeps = λ w cw world all inc n calls en vs s t same len.
       let i = matched w.texts 0 k [] ps vs [] [] are number differ tt (record { each = λ x. tt }) (len ∙ numbered_count 0 k) in
-      keeps_same SameValue (Related cw all en) n _ (and_then (source.eval_body w (trees es) (source.levels w n) i.0 s) (λ a u. Gives a.0 u)) _ (λ m. core.core cw m body i.1 [] t)
+      clause_keeps SameValue (Related cw all en) n _ _ _ (λ wide. keeps_same SameValue (Related cw all en) n _ (and_then (source.eval_body w (trees es) (source.levels w n) i.0 s) (λ a u. Gives a.0 u)) _ (λ m. core.core cw m body i.1 [] t)
       (ap (λ o. source.value_only (source.chosen o (λ c. source.eval_body w (trees es) (source.levels w n) c s) (Raises Error function_clause s))) i.2)
       (λ j m. core.run_body cw (core.levels cw m) body [] (i.3 j) t)
       (map_keeps (Exports []) SameValue (Related cw all en) n (source.eval_body w (trees es) (source.levels w n) i.0 s) (λ m. core.core cw m body i.1 [] t) (λ a. a.0)
       (eval_steady cw body i.1 [] t).extends
       (λ a us ex. one_export a us ex)
-      (keeps.keeps i.0 i.1 i.4 w cw world all inc n calls en [] s t (record { each = λ f g found. refl }) same));
+      (keeps.keeps i.0 i.1 i.4 w cw world all inc n calls en [] s t (record { each = λ f g found. refl }) same)));
 }

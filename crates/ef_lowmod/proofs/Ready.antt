@@ -13,7 +13,7 @@ use Rattle.ef_forms.specs.Built.{AreBuilt, AreBuiltClauses, ArePatterns, AreSome
 use Rattle.ef_forms.specs.Depth.{clauses_depth}
 use Rattle.ef_forms.specs.Plain.{plain_all, plain_clauses, plain_guard}
 use Rattle.ef_forms.specs.Tree.{Clauses, Guards, Trees, clause, count, end, more, no_clauses, no_guard, or_guard}
-use Rattle.ef_forms.specs.Ways.{all_names, body_faults, clauses_faults, no_names, patterns_faults}
+use Rattle.ef_forms.specs.Ways.{all_names, body_faults, clauses_faults, guards_faults, no_names, patterns_faults}
 use Rattle.ef_forms.specs.Weight.{all_weight, clauses_weight}
 use Rattle.ef_forms.proofs.Depths.{some_depths}
 use Rattle.ef_forms.proofs.Plain.{counted}
@@ -61,16 +61,17 @@ first_parts all defined arity p ps no_guard body cs built = record { unguarded =
 first_parts all defined arity p ps (or_guard es gs) body cs built = absurd built
 
 module _ (all : Texts) (defined : List FunctionName) (arity : ℕ) where
-  behind_patterns : (ps body : Trees) (cs : Clauses) → patterns_faults all ps (no_names ∷ []) ++ (body_faults all body (all_names ps ∷ []) ++ clauses_faults all cs (no_names ∷ [])) ≡ []
+  behind_guard : (ps : Trees) (g : Guards) (body : Trees) (cs : Clauses)
+      → patterns_faults all ps (no_names ∷ []) ++ (guards_faults all g (all_names ps ∷ []) ++ (body_faults all body (all_names ps ∷ []) ++ clauses_faults all cs (no_names ∷ []))) ≡ []
       → body_faults all body (all_names ps ∷ []) ++ clauses_faults all cs (no_names ∷ []) ≡ []
-  behind_patterns ps body cs none = nothing_right (patterns_faults all ps (no_names ∷ [])) _ none
+  behind_guard ps g body cs none = nothing_right (guards_faults all g (all_names ps ∷ [])) _ (nothing_right (patterns_faults all ps (no_names ∷ [])) _ none)
 
   behind_first : (p : Place) (ps : Trees) (g : Guards) (body : Trees) (cs : Clauses) → AreReadyClauses all defined arity (clause p ps g body cs) → AreReadyClauses all defined arity cs
   behind_first p ps g body cs ready = record {
     built = (first_parts all defined arity p ps g body cs ready.built).rest;
     narrow = ready.narrow.4;
     of_table = ready.of_table.3;
-    no_fault = nothing_right (body_faults all body (all_names ps ∷ [])) (clauses_faults all cs (no_names ∷ [])) (behind_patterns ps body cs ready.no_fault);
+    no_fault = nothing_right (body_faults all body (all_names ps ∷ [])) (clauses_faults all cs (no_names ∷ [])) (behind_guard ps g body cs ready.no_fault);
   }
 
   first_ready : (c : Clause) (cs : Clauses) → AreReadyClauses all defined arity (clause (out-Clause c).place (plain_all (out-Clause c).patterns.items) (plain_guard (out-Clause c).guard.items) (plain_all (out-Clause c).body.items) cs) → IsReadyClause all defined c
@@ -88,7 +89,7 @@ module _ (all : Texts) (defined : List FunctionName) (arity : ℕ) where
         built = parts.built;
         narrow = ready.narrow.3;
         of_table = ready.of_table.2;
-        no_fault = nothing_left (body_faults all body (all_names ps ∷ [])) (clauses_faults all cs (no_names ∷ [])) (behind_patterns ps body cs ready.no_fault);
+        no_fault = nothing_left (body_faults all body (all_names ps ∷ [])) (clauses_faults all cs (no_names ∷ [])) (behind_guard ps (plain_guard (out-Clause c).guard.items) body cs ready.no_fault);
       }
 
   pub each_ready : (cs : List Clause) → AreReadyClauses all defined arity (plain_clauses cs) → Each (IsReadyClause all defined) cs

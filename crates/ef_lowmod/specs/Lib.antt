@@ -3,4 +3,6 @@ pub mod Parameters
 pub mod Function
 pub mod Info
 pub mod Outline
+pub mod Form
+pub mod Whole
 pub mod Exports

@@ -1,13 +1,11 @@
 -- The outline of a lowered module.
 use Rattle.std.specs.Prelude.{◌≡◌, Bool, not, ◌&&◌, nat_le, bytes_eq, codes, List, [], ◌∷◌, ◌++◌, map, filter}
 use Rattle.ef_base.specs.Texts.{Texts, text}
-use Rattle.ef_core.specs.Conditions.{defined}
 use Rattle.ef_core.specs.Tree.{DefTree, CoreModuleTree}
 use Rattle.ef_forms.specs.declared.tables.FunctionName.{FunctionName}
 use Rattle.ef_forms.specs.Tree.{ModuleTree}
 use Rattle.ef_forms.specs.Built.{functions_in, exports_in}
 use Rattle.ef_lowmod.specs.declared.info.Fixed.{Fixed}
-use Rattle.ef_lowmod.specs.Function.{AreLowered}
 use Rattle.ef_lowmod.specs.Info.{AreFixed, fname, info_def, item_def}
 
 -- not `module_info/0` nor `module_info/1`
@@ -23,4 +21,4 @@ pub record Outline (all : Texts) (m : ModuleTree) (t : CoreModuleTree) : Type 0 
   pub attributes : t.attributes ≡ []
   pub functions : List DefTree
   pub defs : t.defs ≡ functions ++ (info_def fixed m.name ∷ item_def fixed m.name ∷ [])
-  pub in_order : AreLowered all (defined all t) (functions_in m.forms) functions
+  pub in_order : map (λ (d : DefTree). d.name) functions ≡ map (λ f. fname f.name f.arity) (functions_in m.forms)

@@ -1,15 +1,17 @@
 // Clauses, as a case of the parameters.
-ghost use Rattle.std.specs.Prelude.{◌≡◌, ◌+◌, ◌*◌, ◌≤◌, IfOk, map};
+ghost use Rattle.std.specs.Prelude.{◌≡◌, ◌+◌, ◌*◌, ◌≤◌, [], IfOk, map};
 ghost use Rattle.ef_base.specs.Texts.{AllDiffer, AllUtf8, Extends, Texts};
 ghost use Rattle.ef_core.specs.Env.{NamesDiffer};
 ghost use Rattle.ef_core.specs.Everywhere.{Each};
 ghost use Rattle.ef_core.specs.Fresh.{DrawsAtMost, most_variables, variables_from};
-ghost use Rattle.ef_core.specs.Plain.{plain, plain_clause, plain_clauses};
+ghost use Rattle.ef_core.specs.Plain.{plain, plain_clause, plain_clauses, plain_pats};
 ghost use Rattle.ef_core.specs.Tree as c;
 ghost use Rattle.ef_forms.specs.declared.expr.Clause.{out-Clause};
-ghost use Rattle.ef_forms.specs.Built.{AreSome};
+ghost use Rattle.ef_forms.specs.Built.{ArePatterns, AreSome};
+ghost use Rattle.ef_forms.specs.OfTable.{TreesOf};
 ghost use Rattle.ef_forms.specs.Plain as source;
 ghost use Rattle.ef_forms.specs.Weight.{all_weight, clauses_weight};
+ghost use Rattle.ef_lower.specs.Matches.{IsFrontOf};
 ghost use Rattle.ef_lowmod.specs.Clauses.{AreLoweredClauses, AreReadyClauses, IsLoweredBody, IsLoweredClause, IsReadyClause};
 ghost use Rattle.ef_lowmod.specs.Function.{HasWords};
 ghost use Rattle.ef_meaning.specs.Cases as cases;
@@ -17,10 +19,9 @@ ghost use Rattle.ef_meaning.specs.Cases as cases;
 use crate::last::last_clause;
 use crate::variables::push_values;
 use ef_base::{Names, NoMemory};
-use ef_core::{Bind, CoreClause, CoreExpr, CoreVar, Env, Fresh, Lowered};
+use ef_core::{Bind, CoreClause, CoreExpr, CoreVar, Env, Fresh};
 use ef_forms::{Clause, Tables};
-use ef_lower::{closed_body, together};
-use ef_lowpat::{guard, pattern};
+use ef_lower::{BindingFront, Front, binding_front, closed_body, together};
 use std::alloc::Global;
 
 /// A case of the parameters, which are the variables that were drawn so far. Where no clause is chosen it raises
@@ -102,13 +103,30 @@ fn lower_clause(
     ensures lowered { IfOk result (λ c. IsLoweredClause names.new tables.now.functions.items clause.now (plain_clause c)) }
     ensures drawn { IfOk result (λ c. DrawsAtMost (600 * (all_weight (source.plain_all (out-Clause clause.now).patterns.items) + all_weight (source.plain_all (out-Clause clause.now).body.items))) fresh.old fresh.new) }
 {
-    let none = Env::new(alloc);
-    let lowered = pattern(alloc, names, fresh, &clause.patterns, &none, &none)?;
-    let Lowered { pats, tests, binds } = lowered;
-    let guard = guard(alloc, names, fresh, &tests)?;
+    let made = head(alloc, names, fresh, clause)?;
+    let BindingFront { front, binds } = made;
     let env = env_of(alloc, &binds)?;
     let body = closed_body(alloc, names, tables, fresh, &clause.body, env)?;
+    let Front { pats, guard } = front;
     Ok(CoreClause { pats, guard, body })
+}
+
+// The front of a clause, before which no name is bound.
+fn head(
+    alloc: Global,
+    names: &Names,
+    fresh: &mut Fresh,
+    clause: &Clause,
+) -> Result<BindingFront, NoMemory>
+    requires words { HasWords names.now }
+    requires patterns { ArePatterns (source.plain_all (out-Clause clause.now).patterns.items) }
+    requires named { TreesOf names.now (source.plain_all (out-Clause clause.now).patterns.items) }
+    requires enough { fresh.old + 50 * all_weight (source.plain_all (out-Clause clause.now).patterns.items) + 2 ≤ most_variables }
+    ensures { IfOk result (λ f. IsFrontOf names.now (source.plain_all (out-Clause clause.now).patterns.items) fresh.old [] fresh.new (plain_pats f.front.pats.items) (plain f.front.guard) f.binds.items) }
+{
+    let none = Env::new(alloc);
+    let made = binding_front(alloc, names, &clause.patterns, &none, fresh)?;
+    Ok(made)
 }
 
 // Names that differ, as an environment.

@@ -7,8 +7,6 @@ mod function;
 mod info;
 mod last;
 mod module;
-#[cfg(test)]
-mod tests;
 mod variables;
 
 pub use module::lower;

@@ -11,7 +11,9 @@ ghost use Rattle.ef_forms.specs.OfTable.{ModuleOf};
 ghost use Rattle.ef_forms.specs.Plain.{plain_module, plain_placed};
 ghost use Rattle.ef_lower.specs.Scope.{HasFunctions};
 ghost use Rattle.ef_lowmod.specs.Function.{AreLowered, HasNoFault, HasWords, IsLight, IsNarrowFunction, IsLoweredForm, IsReadyFunction, IsWhole, KeepsForm};
+ghost use Rattle.ef_lowmod.specs.Form.{HasLetForm, IsShallowFor};
 ghost use Rattle.ef_lowmod.specs.Outline.{Outline};
+ghost use Rattle.ef_lowmod.specs.Whole.{IsLoweredModule};
 ghost use Rattle.ef_meaning.specs.Lowers.{KeepDefinitions};
 ghost use Rattle.ef_meaning.specs.Runs.{KeepsMeaning};
 
@@ -39,9 +41,44 @@ pub fn lower(
     requires of_table { ModuleOf names.old (plain_module «module».now) }
     requires no_fault { (all : Texts) → Extends names.old all → Each (HasNoFault all) (functions_in (plain_module «module».now).forms) }
     ensures kept { Extends names.old names.new }
+
+    // Name, exports and functions are those of the source, in order.
     ensures outlined { IfOk result (λ m. (all : Texts) → Extends names.new all → Outline all (plain_module «module».now) (core.plain_module m)) }
+
+    ensures let_form { IfOk result (λ m. HasLetForm (core.plain_module m)) }
+    ensures shallow { IfOk result (λ m. IsShallowFor (plain_module «module».now) (core.plain_module m)) }
+
+    // A text says the module, and no text stands at two names of its table.
     ensures of_table { IfOk result (λ m. (all : Texts) → Extends names.new all → CoreModuleOf all (core.plain_module m)) }
     ensures readable { IfOk result (λ m. (all : Texts) → Extends names.new all → IsReadable all (core.plain_module m)) }
+    ensures differ { OnOk result (AllDiffer names.new) }
+    ensures utf8 { OnOk result (AllUtf8 names.new) }
+
+    // On every run it does what the source does.
+    ensures means { IfOk result (λ m. (all : Texts) → Extends names.new all → KeepsMeaning all (plain_module «module».now) (core.plain_module m)) }
+{
+    Ok(lower_whole(alloc, names, module, tables)?)
+}
+
+fn lower_whole(
+    alloc: Global,
+    names: &mut Names,
+    module: &Module,
+    tables: &Tables,
+) -> Result<CoreModule, NoMemory>
+    requires functions { tables.now.functions.items ≡ defined_in (plain_module «module».now).forms }
+    requires exports { tables.now.exports.items ≡ exports_in (plain_module «module».now).forms }
+    requires built { (all : Texts) → Extends names.old all → IsBuilt all (plain_module «module».now) }
+    requires narrow { Each IsNarrowFunction (functions_in (plain_module «module».now).forms) }
+    requires whole { Each IsWhole (functions_in (plain_module «module».now).forms) }
+    requires light { Each IsLight (functions_in (plain_module «module».now).forms) }
+    requires of_table { ModuleOf names.old (plain_module «module».now) }
+    requires no_fault { (all : Texts) → Extends names.old all → Each (HasNoFault all) (functions_in (plain_module «module».now).forms) }
+    ensures kept { Extends names.old names.new }
+    ensures whole { IfOk result (λ m. (all : Texts) → Extends names.new all → IsLoweredModule all (plain_module «module».now) (core.plain_module m)) }
+    ensures of_table { IfOk result (λ m. (all : Texts) → Extends names.new all → CoreModuleOf all (core.plain_module m)) }
+    ensures readable { IfOk result (λ m. (all : Texts) → Extends names.new all → IsReadable all (core.plain_module m)) }
+    ensures differ { OnOk result (AllDiffer names.new) }
     ensures utf8 { OnOk result (AllUtf8 names.new) }
     ensures means { IfOk result (λ m. (all : Texts) → Extends names.new all → KeepsMeaning all (plain_module «module».now) (core.plain_module m)) }
 {

@@ -1,6 +1,8 @@
 -- Several patterns at once, from the beginning.
-use Rattle.std.proofs.Common.{◌≡◌, ℕ, suc, ◌≤◌, ◌⊎◌, inl, inr, List, [], ◌++◌, Option, Some, None, sym, ap, ◌∙◌, subst, arith, append-nil}
+use Rattle.std.proofs.Common.{◌≡◌, ℕ, suc, ◌≤◌, ◌==◌, ◌⊎◌, inl, inr, true, List, [], ◌∷◌, ◌++◌, length, Option, Some, None, refl, sym, ap, ◌∙◌, subst, arith, append-nil}
 use Rattle.std.specs.Prelude.{◌||◌}
+use Rattle.std.proofs.lemmas.Bool.{and_from}
+use Rattle.std.proofs.lemmas.Bool.Decides.{nat_tests}
 use Rattle.ef_base.specs.Texts.{Texts}
 use Rattle.ef_core.specs.declared.env.Bind.{Bind}
 use Rattle.ef_core.specs.declared.literal.CoreVar.{CoreVar}
@@ -17,12 +19,12 @@ use Rattle.ef_core.specs.Scope.{IsAmong, pats_vars}
 use Rattle.ef_core.specs.Tree.{PatTree}
 use Rattle.ef_core.proofs.HoldsLaws.{each_both, each_same}
 use Rattle.ef_forms.specs.Plain.{trees}
-use Rattle.ef_forms.specs.Tree.{Tree}
+use Rattle.ef_forms.specs.Tree.{Tree, count}
 use Rattle.ef_forms.specs.Ways.{all_names}
 use Rattle.ef_forms.specs.Weight.{all_weight}
 use Rattle.ef_meaning.specs.Value.{values_of}
 use Rattle.ef_meaning.specs.Match.{Bindings}
-use Rattle.ef_meaning.specs.Core.{Vars}
+use Rattle.ef_meaning.specs.Core.{Vars, are_built, can_match, pat_count}
 use Rattle.ef_meaning.specs.Lowers.{AreBelow}
 use Rattle.ef_meaning.specs.Named.{bound_names}
 use Rattle.ef_meaning.specs.Patterns.{KeepsPatterns, SameMatch}
@@ -38,12 +40,27 @@ same_match env tests None (Some d) same = same
 same_match env tests (Some b) None same = same
 same_match env tests (Some b) (Some d) same = (same.0, same.1)
 
-pub group_keeps : (now : Texts) (es : List Tree) (n0 : ℕ) (bound : List Bind) (ps : List PatTree) (tests : List Test) (n1 : ℕ) (binds : List Bind) → AreBelow n0 bound → KeepsItems es n0 bound ps tests n1 binds → KeepsPatterns now (trees es) n0 bound (pats ps) tests n1 binds
-group_keeps now es n0 bound ps tests n1 binds below items =
+-- as many patterns as those of the source
+count_of : (es : List Tree) → count (trees es) ≡ length es
+count_of [] = refl
+count_of (e ∷ es) = let rest = count_of es in omega arith
+
+pats_of : (ps : List PatTree) → pat_count (pats ps) ≡ length ps
+pats_of [] = refl
+pats_of (p ∷ ps) = let rest = pats_of ps in omega arith
+
+fit_together : (es : List Tree) (ps : List PatTree) → length ps ≡ length es → are_built (pats ps) ≡ true → can_match (count (trees es)) (pats ps) ≡ true
+fit_together es ps number built =
+    let same : pat_count (pats ps) ≡ count (trees es) = pats_of ps ∙ number ∙ sym (count_of es) in
+    and_from (pat_count (pats ps) == count (trees es)) (are_built (pats ps)) (grind (arith, nat_tests)) built
+
+pub group_keeps : (now : Texts) (es : List Tree) (n0 : ℕ) (bound : List Bind) (ps : List PatTree) (tests : List Test) (n1 : ℕ) (binds : List Bind) → AreBelow n0 bound → length ps ≡ length es → are_built (pats ps) ≡ true → KeepsItems es n0 bound ps tests n1 binds → KeepsPatterns now (trees es) n0 bound (pats ps) tests n1 binds
+group_keeps now es n0 bound ps tests n1 binds below number built items =
     let one = values_keep es n0 bound ps tests n1 binds items in record {
       drawn = one.drawn;
       below = one.below;
       tests_below = one.tests_below;
+      fits = fit_together es ps number built;
       agree = λ all later vs c d e. one.agree all (values_of vs) c d e;
       decided = λ all later vs c d h e.
           let is = one.decided all (values_of vs) c d (valued_held bound c h) e in
@@ -54,7 +71,7 @@ group_keeps now es n0 bound ps tests n1 binds below items =
 module _ (es : List Tree) (bound : List Bind) (n0 n1 : ℕ) (tests : List Test) (binds : List Bind) (ps : List PatTree) (all : LowersItems es bound n0 [] [] n1 tests binds ps) where
   pub matched : (now : Texts) → AreBelow n0 bound → KeepsPatterns now (trees es) n0 bound (pats ps) tests n1 binds
   matched now below =
-      group_keeps now es n0 bound ps tests n1 binds below
+      group_keeps now es n0 bound ps tests n1 binds below all.number all.built
       (subst (λ ts. KeepsItems es n0 bound ps ts n1 binds) (sym all.tests_added)
       (subst (λ bs. KeepsItems es n0 bound ps all.tests n1 bs) (sym all.binds_added)
       (subst (λ env. KeepsItems es n0 env ps all.tests n1 all.binds) (append-nil bound) all.keeps)))

@@ -1,6 +1,7 @@
 -- Patterns are lowered: leaves, nodes, and one pattern after another.
 use Rattle.std.proofs.Common.{◌≡◌, ℕ, ℤ, suc, ◌+◌, ◌≤◌, ◌<◌, ◌==◌, inl, inr, Bool, true, false, List, [], ◌∷◌, ◌++◌, Option, Some, None, max, refl, sym, ap, ◌∙◌, subst, arith, append_assoc, append-nil, length-append}
 use Rattle.std.specs.Prelude.{◌||◌}
+use Rattle.std.proofs.lemmas.Bool.{and_from, and_parts}
 use Rattle.std.proofs.Math.Bool.{or_assoc}
 use Rattle.ef_base.specs.declared.name.Name.{Name}
 use Rattle.ef_base.specs.declared.fault.Place.{Place}
@@ -28,6 +29,7 @@ use Rattle.ef_forms.specs.Tree as from
 use Rattle.ef_forms.specs.Tree.{Tree, end, more, tree}
 use Rattle.ef_forms.specs.Ways.{all_names, names}
 use Rattle.ef_forms.specs.Weight.{all_weight, weight}
+use Rattle.ef_meaning.specs.Core.{are_built, is_built}
 use Rattle.ef_meaning.specs.Lowers.{AreBelow}
 use Rattle.ef_meaning.specs.Named.{bound_names}
 use Rattle.ef_lowpat.specs.Lowers.{LowersItems, LowersPattern, LowersTo, Notes}
@@ -65,6 +67,7 @@ module _ (bound : List Bind) (n0 : ℕ) (t0 : List Test) (b0 : List Bind) where
     variables = refl;
     shallow = shallow;
     lowered = low;
+    built = refl;
     sizes = λ vs fs. tt;
   }
 
@@ -92,6 +95,7 @@ module _ (bound : List Bind) (n0 : ℕ) (t0 : List Test) (b0 : List Bind) where
     variables = refl;
     shallow = omega arith;
     lowered = λ texts of. variable_low range texts;
+    built = refl;
     sizes = λ vs fs. tt;
   }
 
@@ -111,6 +115,7 @@ module _ (bound : List Bind) (n0 : ℕ) (t0 : List Test) (b0 : List Bind) where
     variables = refl;
     shallow = omega arith;
     lowered = λ texts of. variable_low range texts;
+    built = refl;
     sizes = λ vs fs. tt;
   }
 
@@ -132,6 +137,7 @@ module _ (bound : List Bind) (n0 : ℕ) (t0 : List Test) (b0 : List Bind) where
     variables = refl;
     shallow = omega arith;
     lowered = λ texts of. variable_low range texts;
+    built = refl;
     sizes = λ vs fs. tt;
   }
 
@@ -164,6 +170,7 @@ module _ (bound : List Bind) (n0 : ℕ) (t0 : List Test) (b0 : List Bind) where
     variables = refl;
     shallow = omega arith;
     lowered = λ texts of. tt;
+    built = refl;
     sizes = λ vs fs. tt;
   }
 
@@ -202,6 +209,12 @@ module _ (texts : Texts) where
   hold_more [] p all one = (one, tt)
   hold_more (q ∷ ps) p all one = (all.0, hold_more ps p all.1 one)
 
+built_more : (ps : List PatTree) (p : PatTree) → are_built (pats ps) ≡ true → is_built p ≡ true → are_built (pats (ps ++ p ∷ [])) ≡ true
+built_more [] p all one = and_from (is_built p) true one refl
+built_more (q ∷ ps) p all one =
+    let parts = and_parts (is_built q) (are_built (pats ps)) all in
+    and_from (is_built q) (are_built (pats (ps ++ p ∷ []))) parts.0 (built_more ps p parts.1 one)
+
 sizes_more : (vs : List CoreVar) (fs : List FName) (ps : List PatTree) (p : PatTree) → SizesInScope vs fs (pats ps) → SizeInScope vs fs p → SizesInScope vs fs (pats (ps ++ p ∷ []))
 sizes_more vs fs [] p all one = (one, tt)
 sizes_more vs fs (q ∷ ps) p all one = (all.0, sizes_more vs fs ps p all.1 one)
@@ -233,6 +246,7 @@ module _ (bound : List Bind) (n0 : ℕ) (t0 : List Test) (b0 : List Bind) where
         ∙ row_append n0 all.count one.count;
     shallow = let a = all.shallow in let b = one.shallow in let d = depth_more es e in let c = pats_depth_more ps p in omega arith;
     lowered = λ texts of. let parts = of_front texts es e of in hold_more texts ps p (all.lowered texts parts.0) (one.lowered texts parts.1);
+    built = built_more ps p all.built one.built;
     sizes = λ vs fs. sizes_more vs fs ps p (all.sizes vs fs) (one.sizes vs fs);
   }
 
@@ -325,6 +339,7 @@ module _ (e : Tree) (bound : List Bind) (n0 : ℕ) (t0 : List Test) (b0 : List B
     variables = sym (said_vars node says.0 says.1) ∙ one.variables;
     shallow = let d = said_deep node says.0 says.1 in let s = one.shallow in omega arith;
     lowered = λ texts of. said_holds texts node says.0 says.1 (one.lowered texts of);
+    built = refl;
     sizes = λ vs fs. tt;
   })
   finish_lowers node p (inr normal) one = subst (LowersPattern e bound n0 t0 b0 n1 t1 b1) (sym normal.1) (record {
@@ -341,6 +356,7 @@ module _ (e : Tree) (bound : List Bind) (n0 : ℕ) (t0 : List Test) (b0 : List B
     variables = one.variables;
     shallow = one.shallow;
     lowered = λ texts of. node_holds texts node normal.0 (one.lowered texts of);
+    built = one.built;
     sizes = one.sizes;
   })
 
@@ -360,6 +376,7 @@ module _ (pl : Place) (bound : List Bind) (n0 : ℕ) (t0 : List Test) (b0 : List
     variables = all.variables;
     shallow = let s = all.shallow in omega arith;
     lowered = all.lowered;
+    built = all.built;
     sizes = all.sizes;
   })
 
@@ -378,6 +395,7 @@ module _ (pl : Place) (bound : List Bind) (n0 : ℕ) (t0 : List Test) (b0 : List
     variables = all.variables;
     shallow = let s = all.shallow in omega arith;
     lowered = all.lowered;
+    built = all.built;
     sizes = all.sizes;
   })
 
@@ -401,6 +419,7 @@ module _ (pl : Place) (bound : List Bind) (n0 : ℕ) (t0 : List Test) (b0 : List
         ∙ row_append n0 all.count one.count;
     shallow = let a = all.shallow in let b = one.shallow in omega arith;
     lowered = λ texts of. (some, all.lowered texts of.0, one.lowered texts of.1);
+    built = and_from (are_built (pats ps)) (is_built q) all.built one.built;
     sizes = λ vs fs. (all.sizes vs fs, one.sizes vs fs);
   }
 
@@ -427,6 +446,7 @@ list_to_lowers pl bound n0 t0 b0 es n1 t1 b1 [] all e n2 t2 b2 q one p done =
           ∙ row_append n0 all.count one.count;
       shallow = let b = one.shallow in omega arith;
       lowered = λ texts of. one.lowered texts of.1;
+      built = one.built;
       sizes = λ vs fs. one.sizes vs fs;
     })
 

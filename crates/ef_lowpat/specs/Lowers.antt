@@ -1,5 +1,5 @@
 -- What patterns are lowered to, one behind another.
-use Rattle.std.specs.Prelude.{ℕ, ◌≡◌, ◌≤◌, ◌+◌, ◌||◌, ◌⊎◌, Option, Some, None, List, [], ◌∷◌, ◌++◌, length}
+use Rattle.std.specs.Prelude.{ℕ, ◌≡◌, ◌≤◌, ◌+◌, ◌||◌, ◌⊎◌, true, Option, Some, None, List, [], ◌∷◌, ◌++◌, length}
 use Rattle.ef_base.specs.declared.name.Name.{Name}
 use Rattle.ef_base.specs.Texts.{Texts}
 use Rattle.ef_core.specs.declared.env.Bind.{Bind}
@@ -20,6 +20,7 @@ use Rattle.ef_forms.specs.Plain.{trees}
 use Rattle.ef_forms.specs.Tree.{Tree}
 use Rattle.ef_forms.specs.Ways.{all_names, names}
 use Rattle.ef_forms.specs.Weight.{all_weight, weight}
+use Rattle.ef_meaning.specs.Core.{are_built, is_built}
 use Rattle.ef_meaning.specs.Named.{bound_names}
 use Rattle.ef_lowpat.specs.Matching.{KeepsItems, KeepsPattern}
 
@@ -49,6 +50,7 @@ pub record LowersTo (known : Texts → PatTree → Type 0) (e : Tree) (bound : L
   pub light : count ≤ weight e
   pub variables : pat_vars made ≡ variables_from n0 count
   pub shallow : pat_depth made ≤ depth e
+  pub built : is_built made ≡ true
   pub lowered : (texts : Texts) → TreeOf texts e → known texts made
   pub sizes : (vs : List CoreVar) (fs : List FName) → SizeInScope vs fs made
 
@@ -70,6 +72,7 @@ pub record LowersItems (es : List Tree) (bound : List Bind) (n0 : ℕ) (tests0 :
   pub light : count ≤ all_weight (trees es)
   pub variables : pats_vars (pats made) ≡ variables_from n0 count
   pub shallow : pats_depth (pats made) ≤ all_depth (trees es)
+  pub built : are_built (pats made) ≡ true
   pub lowered : (texts : Texts) → TreesOf texts (trees es) → PatsHold (lowered texts) (pats made)
   pub sizes : (vs : List CoreVar) (fs : List FName) → SizesInScope vs fs (pats made)
 

@@ -5,8 +5,6 @@ mod draws;
 mod guards;
 mod nodes;
 mod patterns;
-#[cfg(test)]
-mod tests;
 
 pub use draws::draw;
 pub use guards::{guard, word};

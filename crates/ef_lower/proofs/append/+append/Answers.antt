@@ -17,9 +17,10 @@ use Rattle.ef_forms.specs.Weight.{all_weight, clauses_weight, weight}
 use Rattle.ef_forms.proofs.Plain.{counted, plain_atom, plain_call, plain_case, plain_int, plain_list, plain_list_to, plain_match, plain_remote, plain_tuple, plain_var}
 use Rattle.ef_forms.proofs.Takes.{item_falls, take_next, take_weight, take_within}
 use Rattle.ef_forms.proofs.expr.Expr.TheLaws.{the_size}
+use Rattle.ef_meaning.specs.Lowers.{AreBelow}
 use Rattle.ef_lower.specs.Arms.{AreArms, ArmsCanEnd, IsArm, IsFront, MakesCase, plain_arm}
 use Rattle.ef_lower.specs.Ready.{AreReady, IsReadableBind, IsReadyClause, bound_names}
-use Rattle.ef_lower.proofs.Behind.{adds_as, adds_both, adds_none, held_lowers, list_to_lowers, more_lowers, nothing_lowers, values_as}
+use Rattle.ef_lower.proofs.Behind.{adds_as, adds_both, adds_none, held_lowers, leaf_adds, list_to_lowers, more_lowers, nothing_lowers, values_as}
 use Rattle.ef_lower.proofs.ByCase.{case_lowers}
 use Rattle.ef_lower.proofs.LoweredArms.{arms_can_end, arms_more}
 use Rattle.ef_lower.proofs.Made.{apply_lowers, atom_lowers, int_lowers, list_lowers, lowers_as, remote_lowers, tuple_lowers, value_as, var_lowers}
@@ -34,20 +35,20 @@ use Rattle.ef_lower.proofs.append.+append.Goals as goal
 pub append-returns-in-Int : goal.append-returns-in-Int
 append-returns-in-Int t c =
     let fits : SFits w128 c.in-Int.value = search rules in
-    adds_none _ (lowers_as _ _ (expr_is c.args.expr.now _ _ c.in-Int.is (plain_int _)) (value_as _ _ (c.integer.ensures.literal ∙ ap (λ i. c'.lit (c'.int i)) (to_z-of_z fits))
-    (int_lowers _ _ _ c.requires.below c.requires.readable _ (subst IsInRange (to_z-of_z fits) c.integer.ensures.in_range))))
+    leaf_adds _ _ _ (lowers_as _ _ (expr_is c.args.expr.now _ _ c.in-Int.is (plain_int _)) (value_as _ _ (c.integer.ensures.literal ∙ ap (λ i. c'.lit (c'.int i)) (to_z-of_z fits))
+    (int_lowers _ _ _ c.requires.place.below c.requires.place.readable _ (subst IsInRange (to_z-of_z fits) c.integer.ensures.in_range))))
 
 pub append-returns-in-Atom : goal.append-returns-in-Atom
 append-returns-in-Atom t c =
     let is = expr_is c.args.expr.now _ _ c.in-Atom.is (plain_atom c.in-Atom.name) in
-    adds_none _ (lowers_as _ _ is (value_as _ _ c.atom.ensures (atom_lowers _ _ _ c.requires.below c.requires.readable _ (atom_named _ _ _ _ c.requires.ready.of_table is))))
+    leaf_adds _ _ _ (lowers_as _ _ is (value_as _ _ c.atom.ensures (atom_lowers _ _ _ c.requires.place.below c.requires.place.readable _ (atom_named _ _ _ _ c.requires.ready.of_table is))))
 
 pub append-returns-in-Var : goal.append-returns-in-Var
 append-returns-in-Var t c =
     let is = expr_is c.args.expr.now _ _ c.in-Var.is (plain_var c.in-Var.name) in
     let bound = var_bound _ _ _ _ (ready_as _ _ is c.requires.ready) in
     let var = c.variable.ensures in
-    adds_none _ (lowers_as _ _ is (value_as _ _ var.2 (var_lowers _ _ _ c.requires.below c.requires.readable _ var.0 bound var.1)))
+    leaf_adds _ _ _ (lowers_as _ _ is (value_as _ _ var.2 (var_lowers _ _ _ c.requires.place.below c.requires.place.readable _ var.0 bound var.1)))
 
 -- ---- lists and tuples
 
@@ -56,8 +57,8 @@ append-append_all-requires t c =
     let parts = items_ready _ _ c.args.expr.now _ _ c.in-List.is c.requires.ready in
     let less = parts.1 in
     let same = ap (λ l. all_weight (plain_all l)) c.deref.ensures.value in
-    let all = c.requires.enough in
-    (search (rules, the_lemmas), (c.requires.words, (subst (λ l. AreReady c.args.names.now c.args.tables.now.functions.items (bound_names c.args.env.now) (plain_all l)) (sym c.deref.ensures.value) parts.0, (c.requires.readable, (c.requires.below, omega arith)))))
+    let all = c.requires.place.enough in
+    (search (rules, the_lemmas), (c.requires.words, (subst (λ l. AreReady c.args.names.now c.args.tables.now.functions.items (bound_names c.args.env.now) (plain_all l)) (sym c.deref.ensures.value) parts.0, record { readable = c.requires.place.readable; below = c.requires.place.below; enough = omega arith })))
 
 pub append-append-requires : goal.append-append-requires
 append-append-requires t c =
@@ -66,8 +67,8 @@ append-append-requires t c =
     let weighs = ap weight is in
     let items = c.in_ok-items-in-List.ensures.is in
     let drawn = items.forms.enough in
-    let all = c.requires.enough in
-    (search (rules, the_lemmas), (c.requires.words, (ready_more _ _ _ (grown_within _ items.forms.names) (list_to_tail _ _ _ _ _ (ready_as _ _ is c.requires.ready)), (items.forms.names.readable, (items.keeps.below, omega arith)))))
+    let all = c.requires.place.enough in
+    (search (rules, the_lemmas), (c.requires.words, (ready_more _ _ _ (grown_within _ items.forms.names) (list_to_tail _ _ _ _ _ (ready_as _ _ is c.requires.ready)), record { readable = items.forms.names.readable; below = items.keeps.below; enough = omega arith })))
 
 pub append-returns-in_ok-list-in-None : goal.append-returns-in_ok-list-in-None
 append-returns-in_ok-list-in-None t c =
@@ -91,8 +92,8 @@ pub append-append-requires-in-Match : goal.append-append-requires-in-Match
 append-append-requires-in-Match t c =
     let is = expr_is c.args.expr.now _ _ c.in-Match.is (plain_match _ _) ∙ ap (λ e. t'.tree c.args.expr.now.place (t'.matching (plain c.in-Match.left.value) (plain e))) (sym c.deref-in-Match.ensures) in
     let weighs = ap weight is in
-    let all = c.requires.enough in
-    (search (rules, the_lemmas), (c.requires.words, (match_right _ _ _ _ _ (ready_as _ _ is c.requires.ready), (c.requires.readable, (c.requires.below, omega arith)))))
+    let all = c.requires.place.enough in
+    (search (rules, the_lemmas), (c.requires.words, (match_right _ _ _ _ _ (ready_as _ _ is c.requires.ready), record { readable = c.requires.place.readable; below = c.requires.place.below; enough = omega arith })))
 
 pub append-returns-in_ok-match_value-in-Match : goal.append-returns-in_ok-match_value-in-Match
 append-returns-in_ok-match_value-in-Match t c =
@@ -132,8 +133,8 @@ pub append-append_all-requires-in-Remote : goal.append-append_all-requires-in-Re
 append-append_all-requires-in-Remote t c =
     let is = expr_is c.args.expr.now _ _ c.in-Remote.is (plain_remote _ _ _) ∙ ap (λ l. t'.tree c.args.expr.now.place (t'.remote (plain c.in-Remote.module.value) (plain c.in-Remote.function.value) (plain_all l))) (sym c.deref-in-Remote.ensures.value) in
     let weighs = ap weight is in
-    let all = c.requires.enough in
-    (search (rules, the_lemmas), (c.requires.words, (remote_args _ _ _ _ _ _ (ready_as _ _ is c.requires.ready), (c.requires.readable, (c.requires.below, omega arith)))))
+    let all = c.requires.place.enough in
+    (search (rules, the_lemmas), (c.requires.words, (remote_args _ _ _ _ _ _ (ready_as _ _ is c.requires.ready), record { readable = c.requires.place.readable; below = c.requires.place.below; enough = omega arith })))
 
 pub append-returns-in_ok-call-in-Remote : goal.append-returns-in_ok-call-in-Remote
 append-returns-in_ok-call-in-Remote t c =
@@ -149,7 +150,7 @@ append-returns-in_ok-call-in-Remote t c =
 
 pub append_all-loop-expr-init : goal.append_all-loop-expr-init
 append_all-loop-expr-init t c =
-    adds_none _ (values_as _ _ (ap (map core.plain) c.new-values.ensures.items) (nothing_lowers _ _ c.requires.below c.requires.readable))
+    adds_none _ (values_as _ _ (ap (map core.plain) c.new-values.ensures.items) (nothing_lowers _ _ c.requires.place.below c.requires.place.readable))
 
 pub append_all-append-requires : goal.append_all-append-requires
 append_all-append-requires t c =
@@ -158,9 +159,9 @@ append_all-append-requires t c =
     let drawn = before.forms.enough in
     let next = take_weight c.args.exprs.now c.loop-expr.expr-index c.expr-item.result small c.expr-item.is in
     let within = take_within c.args.exprs.now (c.loop-expr.expr-index + 1) in
-    let all = c.requires.enough in (
+    let all = c.requires.place.enough in (
       item_falls the_size c.args.exprs.now _ _ t small c.expr-item.is c.decreases,
-      (c.requires.words, (ready_more _ _ _ (grown_within _ before.forms.names) (ready_at _ _ c.args.exprs.now _ _ c.requires.ready small c.expr-item.is), (before.forms.names.readable, (before.keeps.below, omega arith)))),
+      (c.requires.words, (ready_more _ _ _ (grown_within _ before.forms.names) (ready_at _ _ c.args.exprs.now _ _ c.requires.ready small c.expr-item.is), record { readable = before.forms.names.readable; below = before.keeps.below; enough = omega arith })),
     )
 
 pub append_all-hold-requires : goal.append_all-hold-requires
@@ -169,7 +170,7 @@ append_all-hold-requires t c =
     let one = c.in_ok-value.ensures.is.form.enough in
     let next = take_weight c.args.exprs.now c.loop-expr.expr-index c.expr-item.result c.loop-expr-test.true c.expr-item.is in
     let within = take_within c.args.exprs.now (c.loop-expr.expr-index + 1) in
-    let all = c.requires.enough in
+    let all = c.requires.place.enough in
     omega arith
 
 pub append_all-loop-expr-preserved : goal.append_all-loop-expr-preserved
@@ -183,7 +184,7 @@ append_all-loop-expr-preserved t c =
 pub append_body-loop-expr-init : goal.append_body-loop-expr-init
 append_body-loop-expr-init t c = record {
   left = all_left _ _ c.args.exprs.now _ c.requires.no_faults;
-  lowered = ([], adds_none _ (nothing_lowers _ _ c.requires.below c.requires.readable));
+  lowered = ([], adds_none _ (nothing_lowers _ _ c.requires.place.below c.requires.place.readable));
 }
 
 pub append_body-append-requires : goal.append_body-append-requires
@@ -193,9 +194,9 @@ append_body-append-requires t c =
     let before = so_far.forms.enough in
     let next = take_weight c.args.exprs.now c.loop-expr.expr-index c.expr-item.result here.0 here.1 in
     let within = take_within c.args.exprs.now (c.loop-expr.expr-index + 1) in
-    let all = c.requires.enough in (
+    let all = c.requires.place.enough in (
       item_falls the_size c.args.exprs.now _ _ t here.0 here.1 c.decreases,
-      (c.requires.words, (ready_left _ _ c.args.exprs.now _ _ _ c.loop-expr.invariant.left here.0 here.1 c.requires.built c.requires.narrow c.requires.of_table, (so_far.forms.names.readable, (so_far.keeps.below, omega arith)))),
+      (c.requires.words, (ready_left _ _ c.args.exprs.now _ _ _ c.loop-expr.invariant.left here.0 here.1 c.requires.built c.requires.narrow c.requires.of_table, record { readable = so_far.forms.names.readable; below = so_far.keeps.below; enough = omega arith })),
     )
 
 pub append_body-hold-requires : goal.append_body-hold-requires
@@ -205,7 +206,7 @@ append_body-hold-requires t c =
     let one = c.in_ok-ignored.ensures.is.form.enough in
     let next = take_weight c.args.exprs.now c.loop-expr.expr-index c.expr-item.result here.0 here.1 in
     let within = take_within c.args.exprs.now (c.loop-expr.expr-index + 1) in
-    let all = c.requires.enough in
+    let all = c.requires.place.enough in
     omega arith
 
 pub append_body-loop-expr-preserved : goal.append_body-loop-expr-preserved
@@ -225,9 +226,9 @@ append_body-append-requires-2 t c =
     let before = so_far.forms.enough in
     let next = take_weight c.args.exprs.now c.loop-expr.expr-index c.index-exprs-last.result small read in
     let within = take_within c.args.exprs.now (c.loop-expr.expr-index + 1) in
-    let all = c.requires.enough in (
+    let all = c.requires.place.enough in (
       item_falls the_size c.args.exprs.now _ _ t small read c.decreases,
-      (c.requires.words, (ready_left _ _ c.args.exprs.now _ _ _ c.loop-expr.invariant.left small read c.requires.built c.requires.narrow c.requires.of_table, (so_far.forms.names.readable, (so_far.keeps.below, omega arith)))),
+      (c.requires.words, (ready_left _ _ c.args.exprs.now _ _ _ c.loop-expr.invariant.left small read c.requires.built c.requires.narrow c.requires.of_table, record { readable = so_far.forms.names.readable; below = so_far.keeps.below; enough = omega arith })),
     )
 
 pub append_body-returns : goal.append_body-returns
@@ -252,8 +253,8 @@ pub append-append-requires-in-Case : goal.append-append-requires-in-Case
 append-append-requires-in-Case t c =
     let is = expr_is c.args.expr.now _ _ c.in-Case.is (plain_case _ _) ∙ ap (λ e. t'.tree c.args.expr.now.place (t'.case_of (plain e) (plain_clauses c.in-Case.clauses.items))) (sym c.deref-in-Case.ensures) in
     let weighs = ap weight is in
-    let all = c.requires.enough in
-    (search (rules, the_lemmas), (c.requires.words, (case_argument _ _ _ _ _ (ready_as _ _ is c.requires.ready), (c.requires.readable, (c.requires.below, omega arith)))))
+    let all = c.requires.place.enough in
+    (search (rules, the_lemmas), (c.requires.words, (case_argument _ _ _ _ _ (ready_as _ _ is c.requires.ready), record { readable = c.requires.place.readable; below = c.requires.place.below; enough = omega arith })))
 
 pub append-arms-requires : goal.append-arms-requires
 append-arms-requires t c =
@@ -262,8 +263,8 @@ append-arms-requires t c =
     let weighs = ap weight is in
     let argument = (held_lowers _ _ c.in_ok-value-in-Case.ensures c.in_ok-held-in-Case.ensures).is in
     let drawn = argument.forms.enough in
-    let all = c.requires.enough in
-    (search (rules, the_lemmas), (c.requires.words, (each_ready _ _ _ c.deref-in-Case-2.result.now (case_clauses _ _ _ _ _ _ argument.forms.names.named (ready_as _ _ is c.requires.ready)), (argument.forms.names.readable, (argument.keeps.below, omega arith)))))
+    let all = c.requires.place.enough in
+    (search (rules, the_lemmas), (c.requires.words, (each_ready _ _ _ c.deref-in-Case-2.result.now (case_clauses _ _ _ _ _ _ argument.forms.names.named (ready_as _ _ is c.requires.ready)), record { readable = argument.forms.names.readable; below = argument.keeps.below; enough = omega arith })))
 
 pub append-choose-requires-clause-arms : goal.append-choose-requires-clause-arms
 append-choose-requires-clause-arms t c =
@@ -272,7 +273,7 @@ append-choose-requires-clause-arms t c =
     let weighs = ap weight is in
     let argument = (held_lowers _ _ c.in_ok-value-in-Case.ensures c.in_ok-held-in-Case.ensures).is in
     let drawn = argument.forms.enough in
-    let all = c.requires.enough in
+    let all = c.requires.place.enough in
     let arms = c.in_ok-arms-in-Case.ensures in
     subst (λ l. ArmsCanEnd c.hold-in-Case.new.fresh l (map plain_arm c.in_ok-arms-in-Case.arms.items)) (sym arms.same)
     (arms_can_end _ _ _ _ (map plain_clause c.deref-in-Case-2.result.now) _ arms.arms (ready_as _ _ is c.requires.ready).built.1 (omega arith))
@@ -294,9 +295,9 @@ arms-arm-requires t c =
     let same = sym c.loop-clause.invariant.same in
     let ready = each_get (λ k. IsReadyClause c.args.names.now c.args.tables.now.functions.items (bound_names c.args.env.now) (plain_clause k)) c.args.clauses.now _ _ c.requires.ready small c.clause-item.is in
     let within = clause_within c.args.clauses.now c.loop-clause.clause-index c.clause-item.result small c.clause-item.is in
-    let all = c.requires.enough in (
+    let all = c.requires.place.enough in (
       search (rules, the_lemmas),
-      (c.requires.words, (subst (λ l. IsReadyClause c.args.names.now c.args.tables.now.functions.items (bound_names l) (plain_clause c.clause-item.result)) same ready, (subst (Each (IsReadableBind c.args.names.now)) same c.requires.readable, (search rules, omega arith)))),
+      (c.requires.words, (subst (λ l. IsReadyClause c.args.names.now c.args.tables.now.functions.items (bound_names l) (plain_clause c.clause-item.result)) same ready, record { readable = subst (Each (IsReadableBind c.args.names.now)) same c.requires.place.readable; below = subst (AreBelow c.args.fresh.now) same c.requires.place.below; enough = omega arith })),
     )
 
 pub arms-loop-clause-preserved : goal.arms-loop-clause-preserved
@@ -313,16 +314,16 @@ arms-loop-clause-preserved t c =
 
 pub arm-front_of-requires-clause-enough : goal.arm-front_of-requires-clause-enough
 arm-front_of-requires-clause-enough t c =
-    let enough = subst (λ k. k + 500 * clauses_weight (plain_clauses (c.args.clause.now ∷ [])) ≤ most_variables) (sym c.copy-fresh.ensures) c.requires.enough in
+    let enough = subst (λ k. k + 500 * clauses_weight (plain_clauses (c.args.clause.now ∷ [])) ≤ most_variables) (sym c.copy-fresh.ensures) c.requires.place.enough in
     front_enough _ _ _ _ (plain_clause c.args.clause.now) c.requires.ready enough
 
 pub arm-append_body-requires : goal.arm-append_body-requires
 arm-append_body-requires t c =
     let front = subst (λ k. IsFront c.args.names.now (plain_clause c.args.clause.now) k c.args.env.now c.front_of.new.fresh c.front_of.new.env (core.plain_pats c.in_ok-front.front.pats.items) (core.plain c.in_ok-front.front.guard)) c.copy-fresh.ensures c.in_ok-front.ensures in
-    let body = ready_body_as _ _ (map plain c.deref.result.now) _ _ _ (ap (map plain) c.deref.ensures.value) (ready_body _ _ _ _ (plain_clause c.args.clause.now) c.requires.ready _ _ _ _ front c.requires.readable c.requires.enough) in
+    let body = ready_body_as _ _ (map plain c.deref.result.now) _ _ _ (ap (map plain) c.deref.ensures.value) (ready_body _ _ _ _ (plain_clause c.args.clause.now) c.requires.ready _ _ _ _ front c.requires.place.readable c.requires.place.enough) in
     let some = body.some in
     let counted = mapped_count plain c.deref.result.now in
-    (search (rules, the_lemmas), (c.requires.words, (omega arith, (body.built, (body.narrow, (body.of_table, (body.readable, (body.no_faults, (body.below, body.enough)))))))))
+    (search (rules, the_lemmas), (c.requires.words, (omega arith, (body.built, (body.narrow, (body.of_table, (body.no_faults, record { readable = body.readable; below = body.below; enough = body.enough })))))))
 
 pub arm-split_off-requires : goal.arm-split_off-requires
 arm-split_off-requires t c =

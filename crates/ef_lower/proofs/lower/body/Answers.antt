@@ -1,6 +1,7 @@
 use Rattle.std.proofs.Common.{ap, map, arith, rules}
 use Rattle.ef_core.specs.Plain as core
 use Rattle.ef_lower.proofs.Bodies.{body_enough, body_from, named_body, named_drawn, named_exported}
+use Rattle.ef_lower.proofs.LastCalls.{named_stays}
 use Rattle.ef_lower.proofs.lower.body.Goals as goal
 
 pub with_names-requires : goal.with_names-requires
@@ -22,5 +23,6 @@ returns c =
       shallow = body.shallow;
       exports = named_exported _ _ none lowers _ c.len.ensures gives.differ gives.named gives.gives;
       drawn = named_drawn _ _ none lowers _ c.len.ensures gives.differ gives.named gives.gives;
+      last_calls = named_stays _ _ _ lowers gives.named gives.gives;
       means = body.means;
     }

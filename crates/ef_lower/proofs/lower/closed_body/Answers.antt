@@ -1,6 +1,7 @@
 use Rattle.std.proofs.Common.{ap, map, rules}
 use Rattle.ef_core.specs.Plain as core
 use Rattle.ef_lower.proofs.Bodies.{body_alone, body_drawn}
+use Rattle.ef_lower.proofs.LastCalls.{alone_stays}
 use Rattle.ef_lower.proofs.lower.closed_body.Goals as goal
 
 pub returns : goal.returns
@@ -15,5 +16,6 @@ returns c =
       in_scope = body.in_scope;
       shallow = body.shallow;
       drawn = body_drawn _ _ none c.in_ok-value.ensures;
+      last_calls = alone_stays _ _ c.in_ok-value.ensures c.in_ok-finish.ensures;
       means = body.means;
     }

@@ -2,6 +2,7 @@ use Rattle.std.proofs.Common.{ap, map, arith, rules}
 use Rattle.ef_core.specs.Plain as core
 use Rattle.ef_forms.specs.Plain.{plain}
 use Rattle.ef_lower.proofs.Bodies.{exported_one, named_body, named_drawn, named_exported, one_body}
+use Rattle.ef_lower.proofs.LastCalls.{named_stays}
 use Rattle.ef_lower.proofs.lower.expression.Goals as goal
 
 pub returns : goal.returns
@@ -22,5 +23,6 @@ returns c =
       shallow = omega arith;
       exports = exported_one (plain c.args.expr.now) (named_exported _ _ none lowers _ c.len.ensures gives.differ gives.named gives.gives);
       drawn = (drawn.0, omega arith);
+      last_calls = named_stays _ _ _ lowers gives.named gives.gives;
       means = body.means;
     }

@@ -2,28 +2,28 @@
 use Rattle.std.proofs.Common.{◌≡◌, ◌≢◌, ◌≤◌, ◌⊎◌, ℕ, List, [], ◌∷◌, ◌++◌, Bool, true, false, length, refl, sym, ap, ◌∙◌, subst, arith, inl, inr, Result, Ok, Err, IfOk}
 use Rattle.std.specs.Prelude.{IsTrue, ◌↔◌}
 use Rattle.ef_base.specs.declared.fault.Fault.{Fault}
-use Rattle.ef_base.specs.declared.fault.Place.{Place}
 use Rattle.ef_base.specs.declared.name.Name.{Name}
 use Rattle.ef_base.specs.Faults.{set_of}
+use Rattle.ef_base.specs.NamedFaults as fault
 use Rattle.ef_base.specs.Texts.{Texts, AllDiffer, Extends}
 use Rattle.ef_base.specs.Laws.{extends_same}
 use Rattle.ef_token.specs.declared.token.Token.{Token}
 use Rattle.ef_token.specs.declared.token.ScannedForm.{ScannedForm}
 use Rattle.ef_scan.specs.Scan.{Form, Scans, ScansTo, IsScanned, AreOf}
-use Rattle.ef_forms.specs.Tree.{Trees, Clauses, FunctionTree, FormTree, PlacedTree, ModuleTree, module_name, export, function, count}
+use Rattle.ef_forms.specs.Tree.{Clauses, FunctionTree, FormTree, PlacedTree, ModuleTree, module_name, export, function}
 use Rattle.ef_forms.specs.Weight.{function_weight}
 use Rattle.ef_forms.specs.Built.{AreSome, Each, IsBuilt, functions_in, functions_of}
-use Rattle.ef_parse.specs.Grammar.{SpellsSome, SpellsClause, SpellsClauses, one, and_more, a_clause, one_clause, and_clauses}
+use Rattle.ef_parse.specs.Grammar.{SpellsClauses, one_clause, and_clauses}
 use Rattle.ef_module.specs.Forms.{SpellsForm, SpellsForms, SpellsModule, IsNarrowForm, a_module_name, an_export, a_function}
 use Rattle.ef_module.specs.Read.{ReadsModule}
 use Rattle.ef_lowmod.specs.Function.{IsLight, IsNarrowFunction, IsWhole, HasNoFault}
 use Rattle.ef_front.specs.declared.compiling.Compiled.{Compiled}
 use Rattle.ef_front.specs.declared.compiling.Compiled.TheVariants.{Module, Faulty}
-use Rattle.ef_front.specs.Source.{IsSource, HasFaults, blank, faulty_forms, of_module, not_built, faults_in, module_faults, forms_faults, form_faults, at_start}
+use Rattle.ef_front.specs.Source.{IsSource, HasFaults, blank, faulty_forms, of_module, not_built, faults_in, module_faults, forms_faults, form_faults}
 use Rattle.ef_front.specs.Input.{limit}
-use Rattle.ef_front.specs.Runs.{IsCompiledText}
+use Rattle.ef_front.specs.Compiled.{IsCompiledText}
 use Rattle.ef_front.specs.Compiles.{AreTaken, SpellLight, IsFaulty, IsCompiledModule, IsCompiledForms}
-use Rattle.ef_front.proofs.Nested.{each_joined, written}
+use Rattle.ef_front.proofs.Nested.{each_joined, printed, written}
 use Rattle.ef_front.proofs.Sizes.{AreLight, light}
 use Rattle.ef_front.proofs.OneSource.{other_source}
 use Rattle.ef_front.proofs.Taken.{faults_taken, set_none}
@@ -101,13 +101,13 @@ pub forms_compiled : (names : Texts) (m : ModuleTree) (forms : List (List Token)
 forms_compiled names m forms (Module l) reads is = (m, reads.spelled names (extends_same names), is.0, is.1)
 forms_compiled names m forms (Faulty faults) reads is = (is.0, by_case is.1)
   where
-    by_case : IsFaulty names m faults ⊎ ((IsBuilt names m → ⊥) × (faults ≡ at_start 500 [] ∷ []))
-        → ((m' : ModuleTree) × SpellsModule names m' forms × IsFaulty names m' faults) ⊎ (((m' : ModuleTree) → SpellsModule names m' forms → IsBuilt names m' → ⊥) × (faults ≡ at_start 500 [] ∷ []))
+    by_case : IsFaulty names m faults ⊎ ((IsBuilt names m → ⊥) × (faults ≡ fault.not_built ∷ []))
+        → ((m' : ModuleTree) × SpellsModule names m' forms × IsFaulty names m' faults) ⊎ (((m' : ModuleTree) → SpellsModule names m' forms → IsBuilt names m' → ⊥) × (faults ≡ fault.not_built ∷ []))
     by_case (inl here) = inl (m, reads.spelled names (extends_same names), here)
     by_case (inr none) = inr (λ m' spelled built. none.0 (subst (IsBuilt names) (reads.alone names (extends_same names) m' spelled) built), none.1)
 
-at_start_some : (faults : List Fault) (code : ℕ) → faults ≡ at_start code [] ∷ [] → faults ≢ []
-at_start_some faults code is none = let bad : [] ≡ at_start code [] ∷ [] = sym none ∙ is in cc
+one_some : (faults : List Fault) (f : Fault) → faults ≡ f ∷ [] → faults ≢ []
+one_some faults f is none = let bad : [] ≡ f ∷ [] = sym none ∙ is in cc
 
 pub text_compiled : (names : Texts) (source : List ℕ) (forms : List (List Token)) (result : Compiled) → AllDiffer names → forms ≢ [] → ScansTo names 0 source forms
     → IsCompiledForms names forms result → IsCompiledText source result
@@ -115,12 +115,13 @@ text_compiled names source [] result differ some scanned is = absurd (some refl)
 text_compiled names source (form ∷ forms) (Module l) differ some scanned is =
     let origin : IsSource names source is.0 = record { differ = differ; forms = form ∷ forms; scanned = scanned; spelled = is.1; built = is.2.built } in (
       of_module names is.0 origin is.2.are,
-      record { all = names; module_tree = is.0; spelled = origin; later = l.names; extends = is.3.extends; written = written names is.0 (form ∷ forms) l is.1 is.3 },
+      record { all = names; module_tree = is.0; spelled = origin; later = l.names; extends = is.3.extends; differ = is.3.differ; utf8 = is.3.utf8; written = written names is.0 (form ∷ forms) l is.1 is.3 },
+      printed names is.0 (form ∷ forms) l is.1 is.3,
       is.3.writable,
     )
 text_compiled names source (form ∷ forms) (Faulty faults) differ some scanned is = (by_case is.1, is.0)
   where
-    by_case : ((m : ModuleTree) × SpellsModule names m (form ∷ forms) × IsFaulty names m faults) ⊎ (((m : ModuleTree) → SpellsModule names m (form ∷ forms) → IsBuilt names m → ⊥) × (faults ≡ at_start 500 [] ∷ []))
+    by_case : ((m : ModuleTree) × SpellsModule names m (form ∷ forms) × IsFaulty names m faults) ⊎ (((m : ModuleTree) → SpellsModule names m (form ∷ forms) → IsBuilt names m → ⊥) × (faults ≡ fault.not_built ∷ []))
         → HasFaults source faults
     by_case (inl here) = of_module names here.0 (record { differ = differ; forms = form ∷ forms; scanned = scanned; spelled = here.1; built = here.2.built }) here.2.are
     by_case (inr none) = not_built names form forms scanned (λ all m origin.
@@ -128,9 +129,9 @@ text_compiled names source (form ∷ forms) (Faulty faults) differ some scanned 
         none.0 other.module_tree other.spelled other.is.built) none.1
 
 -- without forms
-pub blank_compiled : (names : Texts) (source : List ℕ) (scanned : List ScannedForm) (faults : List Fault) → IsScanned names 0 source scanned → scanned ≡ [] → faults ≡ at_start 308 [] ∷ [] → IsCompiledText source (Faulty faults)
+pub blank_compiled : (names : Texts) (source : List ℕ) (scanned : List ScannedForm) (faults : List Fault) → IsScanned names 0 source scanned → scanned ≡ [] → faults ≡ fault.no_module ∷ [] → IsCompiledText source (Faulty faults)
 blank_compiled names source scanned faults is none are =
-    (blank names (subst (Scans names 0 source) (no_forms is.0 (subst (λ s. AreOf s is.0) none is.1)) is.2) are, at_start_some faults 308 are)
+    (blank names (subst (Scans names 0 source) (no_forms is.0 (subst (λ s. AreOf s is.0) none is.1)) is.2) are, one_some faults fault.no_module are)
   where
     no_forms : (forms : List Form) → AreOf [] forms → forms ≡ []
     no_forms [] h = refl
@@ -145,15 +146,15 @@ faulty_compiled names source scanned faults forms is taken some =
 
 -- ---- what is not built, at one module
 
-pub not_that : (names : Texts) (m : ModuleTree) (faults : List Fault) (b : Bool) → ((all : Texts) → Extends names all → IsTrue b ↔ IsBuilt all m) → b ≡ false → faults ≡ at_start 500 [] ∷ []
+pub not_that : (names : Texts) (m : ModuleTree) (faults : List Fault) (b : Bool) → ((all : Texts) → Extends names all → IsTrue b ↔ IsBuilt all m) → b ≡ false → faults ≡ fault.not_built ∷ []
     → IsCompiledModule names m (Faulty faults)
 not_that names m faults b tells is are =
-    (at_start_some faults 500 are, inr (λ built. let bad : false ≡ true = sym is ∙ (tells names (extends_same names)).1 built in cc, are))
+    (one_some faults fault.not_built are, inr (λ built. let bad : false ≡ true = sym is ∙ (tells names (extends_same names)).1 built in cc, are))
 
-pub no_that : (names : Texts) (forms : List (List Token)) (faults : List Fault) → ((all : Texts) → Extends names all → (m : ModuleTree) → SpellsModule all m forms → ⊥) → faults ≡ at_start 500 [] ∷ []
+pub no_that : (names : Texts) (forms : List (List Token)) (faults : List Fault) → ((all : Texts) → Extends names all → (m : ModuleTree) → SpellsModule all m forms → ⊥) → faults ≡ fault.not_built ∷ []
     → IsCompiledForms names forms (Faulty faults)
 no_that names forms faults none are =
-    (at_start_some faults 500 are, inr (λ m spelled built. none names (extends_same names) m spelled, are))
+    (one_some faults fault.not_built are, inr (λ m spelled built. none names (extends_same names) m spelled, are))
 
 pub if_ok : {T E : Type 0} (r : Result T E) (P Q : T → Type 0) → ((y : T) → P y → Q y) → IfOk r P → IfOk r Q
 if_ok (Ok y) P Q f h = f y h

@@ -1,6 +1,6 @@
 -- What stands in an output that was created, and then written.
-use Rattle.std.proofs.Common.{◌≡◌, ◌≤◌, ◌⊎◌, inl, inr, ℕ, List, [], take, refl, arith, sym, ap, ◌∙◌, subst, Option, None, Some, Result, Ok, Err}
-use Rattle.std.specs.Prelude.{false}
+use Rattle.std.proofs.Common.{◌≡◌, ◌≤◌, ◌⊎◌, inl, inr, ℕ, List, [], take, refl, sym, ap, ◌∙◌, subst, Option, None, Some, Result, Ok, Err}
+use Rattle.std.specs.Prelude.{false, IfSome, ◌≢◌}
 use Rattle.ef_io.specs.Count.{Rose}
 use Rattle.ef_io.specs.Sink.{SinkView, IsAppended, Creates, HasWriteCause, Stays, with_more}
 use Rattle.ef_io.specs.Laws.{printed_none}
@@ -11,7 +11,10 @@ use Rattle.ef_io.specs.declared.status.Status.TheVariants as status
 use Rattle.ef_front.specs.declared.job.Job.{Job}
 use Rattle.ef_front.specs.Input.{MayBeWritten}
 use Rattle.ef_front.specs.Buffered.{HoldsNone, PutsTold}
-use Rattle.ef_front.specs.Runs.{told_as, nothing, Prints, Creates as IsCreatedUnder, Delivers, Produces, IsUncreated, HoldsFront}
+use Rattle.ef_front.specs.Created.{told_as, Creates as IsCreatedUnder, IsUncreated, HoldsFront}
+use Rattle.ef_front.specs.Printed.{IsLaidOut, IsPrinted}
+use Rattle.ef_front.specs.Runs.{Prints, nothing}
+use Rattle.ef_front.specs.Parts.{Delivers, Produces}
 
 -- a closed output of these told bytes
 abbrev closed : Option (List ℕ) → SinkView
@@ -58,3 +61,26 @@ creates_delivered job files text output output' diag diag' status.Faults may tol
 creates_delivered job files text output output' diag diag' status.NoMemory may told = absurd told
 creates_delivered job files text output output' diag diag' status.Words may told = absurd told
 creates_delivered job files text output output' diag diag' status.ReadFault may told = absurd told
+
+-- what is laid out once it is delivered
+told_printed : (told : Option (List ℕ)) (text : List ℕ) → IsPrinted text → IfSome (told_as told text) IsPrinted
+told_printed None text printed = tt
+told_printed (Some bytes) text printed = printed
+
+pub laid_delivered : (out text : List ℕ) (output output' diag diag' : SinkView) (result : Status) → IsPrinted text → Delivers out text output output' diag diag' result → IsLaidOut result output'
+laid_delivered out text output output' diag diag' status.Written printed told =
+    subst (λ written. IfSome written IsPrinted) (sym told.1) (told_printed output.written text printed)
+laid_delivered out text output output' diag diag' status.WriteFault printed told = tt
+laid_delivered out text output output' diag diag' status.Faults printed told = tt
+laid_delivered out text output output' diag diag' status.NoMemory printed told = tt
+laid_delivered out text output output' diag diag' status.Words printed told = tt
+laid_delivered out text output output' diag diag' status.ReadFault printed told = tt
+
+-- under another status nothing has to be
+pub laid_otherwise : (result : Status) (output : SinkView) → result ≢ status.Written → IsLaidOut result output
+laid_otherwise status.Written output other = absurd (other refl)
+laid_otherwise status.WriteFault output other = tt
+laid_otherwise status.Faults output other = tt
+laid_otherwise status.NoMemory output other = tt
+laid_otherwise status.Words output other = tt
+laid_otherwise status.ReadFault output other = tt

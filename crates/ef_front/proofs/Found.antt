@@ -5,9 +5,9 @@ use Rattle.ef_io.specs.Sources.{Files, Reads, KeepsRead}
 use Rattle.ef_io.specs.declared.sources.ReadRefusal.TheVariants.{TooLarge}
 use Rattle.ef_front.specs.declared.compiling.Compiled.{Compiled}
 use Rattle.ef_front.specs.declared.compiling.Compiled.TheVariants.{Module, Faulty}
-use Rattle.ef_front.specs.Source.{at_start}
+use Rattle.ef_base.specs.NamedFaults as fault
 use Rattle.ef_front.specs.Input.{limit, Finds, AreFaults}
-use Rattle.ef_front.specs.Runs.{IsCompiled, IsCompiledText}
+use Rattle.ef_front.specs.Compiled.{IsCompiled, IsCompiledText}
 
 found : (files : Option Files) (path old source : List ℕ) → old ≡ [] → Reads files path limit old source (Ok tt) → Finds files path (Some source)
 found None path old source none read = tt
@@ -27,6 +27,7 @@ compiled_file files path old source (Module l) none read kept is = (
     fits = is.1;
   },
   is.2,
+  is.3,
 )
 compiled_file files path old source (Faulty faults) none read kept is = (
   record {
@@ -43,7 +44,7 @@ long_text zero = (0 ∷ [], omega arith)
 long_text (suc n) = let shorter = long_text n in (0 ∷ shorter.0, omega (arith, shorter.1))
 
 -- a file past the limit
-pub large_file : (files : Option Files) (path old source : List ℕ) (faults : List Fault) → Reads files path limit old source (Err TooLarge) → faults ≡ at_start 308 [] ∷ at_start 601 [] ∷ [] → AreFaults files path faults
+pub large_file : (files : Option Files) (path old source : List ℕ) (faults : List Fault) → Reads files path limit old source (Err TooLarge) → faults ≡ fault.no_module ∷ fault.file_too_large ∷ [] → AreFaults files path faults
 large_file None path old source faults read are =
     let large = long_text limit in record { content = Some large.0; found = tt; are = inl (large.1, are) }
 large_file (Some files) path old source faults read are = record { content = Some read.0; found = read.1; are = inl (read.2, are) }

@@ -8,7 +8,8 @@ use Rattle.ef_io.specs.declared.status.Status.TheVariants as status
 use Rattle.ef_front.specs.declared.job.Job.{Job}
 use Rattle.ef_front.specs.Lines.{image}
 use Rattle.ef_front.specs.Input.{AreFaults, MayBeWritten}
-use Rattle.ef_front.specs.Runs.{Prints, Creates, Counts, IsUncreated}
+use Rattle.ef_front.specs.Runs.{Prints, Counts}
+use Rattle.ef_front.specs.Created.{Creates, IsUncreated}
 use Rattle.ef_front.specs.Headline.{Shows, ShowsFaults, AllWorked}
 
 shows_some : (faults : List Fault) (job : Job) (files : Option Files) (output output' diag diag' : SinkView) → faults ≢ [] → IsAppended diag diag' (image job.path faults) → IsUncreated output' → Shows faults job files status.Faults output output' diag diag'

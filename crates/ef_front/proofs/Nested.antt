@@ -1,5 +1,5 @@
 -- A written module is no deeper than a text may be.
-use Rattle.std.specs.Prelude.{◌*◌, ◌≤◌, ◌≡◌, List, [], ◌∷◌, ◌++◌, refl}
+use Rattle.std.specs.Prelude.{◌*◌, ◌≤◌, ◌≡◌, List, [], ◌∷◌, ◌++◌, map, refl}
 use Rattle.std.proofs.Common.{arith, ap, sym, subst}
 use Rattle.ef_base.specs.Texts.{Texts}
 use Rattle.ef_token.specs.declared.token.Token.{Token}
@@ -8,18 +8,18 @@ use Rattle.ef_forms.specs.Depth.{function_depth}
 use Rattle.ef_forms.specs.Tree.{FormTree, FunctionTree, PlacedTree, ModuleTree}
 use Rattle.ef_parse.proofs.Depths.{clauses_nest}
 use Rattle.ef_module.specs.Forms.{SpellsForm, SpellsForms, SpellsModule, a_module_name, an_export, a_function, most_nesting}
-use Rattle.ef_core.specs.declared.literal.FName.{FName}
-use Rattle.ef_core.specs.Conditions.{defined}
 use Rattle.ef_core.specs.Depth.{depth, functions_depth, module_depth, terms_depth}
-use Rattle.ef_core.specs.Layout.{text_of}
 use Rattle.ef_core.specs.Plain.{plain_module}
-use Rattle.ef_core.specs.Reads.{greatest_depth}
+use Rattle.ef_core.specs.Reads.{Reads, greatest_depth}
 use Rattle.ef_core.specs.Tree.{DefTree, CoreModuleTree}
 use Rattle.ef_core.proofs.Law.{reads}
-use Rattle.ef_lowmod.specs.Function.{AreLowered}
+use Rattle.ef_lowmod.specs.Form.{AreShallow, IsShallowFor}
+use Rattle.ef_lowmod.specs.Info.{fname}
 use Rattle.ef_lowmod.specs.Outline.{Outline}
 use Rattle.ef_front.specs.declared.compiling.Lowered.{Lowered}
 use Rattle.ef_front.specs.Compiles.{IsLoweredTo}
+use Rattle.ef_front.specs.Compiled.{text_in}
+use Rattle.ef_front.specs.Printed.{IsPrinted}
 use Rattle.ef_front.specs.Written.{IsWritten}
 
 abbrev pub IsNested : FunctionTree → Type 0
@@ -46,26 +46,45 @@ module_nested all m forms spelled = forms_nested all m.forms forms spelled.spell
 
 -- ---- what is lowered
 
-functions_shallow : (all : Texts) (fs : List FName) (gs : List FunctionTree) (ds behind : List DefTree) → AreLowered all fs gs ds → Each IsNested gs → functions_depth behind ≤ greatest_depth
+functions_shallow : (gs : List FunctionTree) (ds behind : List DefTree) → map (λ (d : DefTree). d.name) ds ≡ map (λ (f : FunctionTree). fname f.name f.arity) gs → AreShallow gs (ds ++ behind) → Each IsNested gs → functions_depth behind ≤ greatest_depth
     → functions_depth (ds ++ behind) ≤ greatest_depth
-functions_shallow all fs [] [] behind lowered nested last = last
-functions_shallow all fs [] (d ∷ ds) behind lowered nested last = absurd lowered
-functions_shallow all fs (g ∷ gs) [] behind lowered nested last = absurd lowered
-functions_shallow all fs (g ∷ gs) (d ∷ ds) behind lowered nested last =
-    let here : depth d.body ≤ 16 * function_depth g = lowered.0.shallow in
+functions_shallow [] [] behind same shallow nested last = last
+functions_shallow [] (d ∷ ds) behind same shallow nested last = cc
+functions_shallow (g ∷ gs) [] behind same shallow nested last = cc
+functions_shallow (g ∷ gs) (d ∷ ds) behind same shallow nested last =
+    let here : depth d.body ≤ 16 * function_depth g = shallow.0 in
     let within : function_depth g ≤ 128 = nested.0 in
-    let others : functions_depth (ds ++ behind) ≤ 2048 = functions_shallow all fs gs ds behind lowered.1 nested.1 last in
+    let rest : map (λ (d : DefTree). d.name) ds ≡ map (λ (f : FunctionTree). fname f.name f.arity) gs = cc in
+    let others : functions_depth (ds ++ behind) ≤ 2048 = functions_shallow gs ds behind rest shallow.1 nested.1 last in
     omega arith
 
-outline_shallow : (all : Texts) (m : ModuleTree) (t : CoreModuleTree) → Outline all m t → Each IsNested (functions_in m.forms) → module_depth t ≤ greatest_depth
-outline_shallow all m t is nested =
+module_shallow : (all : Texts) (m : ModuleTree) (t : CoreModuleTree) → Outline all m t → IsShallowFor m t → Each IsNested (functions_in m.forms) → module_depth t ≤ greatest_depth
+module_shallow all m t is shallow nested =
     let defs : functions_depth t.defs ≤ 2048 =
-    subst (λ ds. functions_depth ds ≤ 2048) (sym is.defs) (functions_shallow all (defined all t) (functions_in m.forms) is.functions _ is.in_order nested (omega arith)) in
+    subst (λ ds. functions_depth ds ≤ 2048) (sym is.defs)
+    (functions_shallow (functions_in m.forms) is.functions _ is.in_order (subst (AreShallow (functions_in m.forms)) is.defs shallow) nested (omega arith)) in
     let terms : terms_depth t.attributes ≡ 0 = ap terms_depth is.attributes in
     omega arith
 
 -- what is lowered from forms that spell a module is read back
-pub written : (names : Texts) (m : ModuleTree) (forms : List (List Token)) (l : Lowered) → SpellsModule names m forms → IsLoweredTo names m l → IsWritten l.names m (text_of l.names (plain_module l.«module»))
-written names m forms l spelled is =
-    let deep = outline_shallow l.names m (plain_module l.«module») is.outline (module_nested names m forms spelled) in
-    record { core = plain_module l.«module»; read = reads l.names (plain_module l.«module») is.utf8 is.readable deep; outline = is.outline; means = is.means; is = refl }
+read_back : (names : Texts) (m : ModuleTree) (forms : List (List Token)) (l : Lowered) → SpellsModule names m forms → IsLoweredTo names m l → Reads l.names (text_in l) (plain_module l.«module»)
+read_back names m forms l spelled is =
+    reads l.names (plain_module l.«module») is.utf8 is.readable (module_shallow l.names m (plain_module l.«module») is.outline is.shallow (module_nested names m forms spelled))
+
+pub written : (names : Texts) (m : ModuleTree) (forms : List (List Token)) (l : Lowered) → SpellsModule names m forms → IsLoweredTo names m l → IsWritten l.names m (text_in l)
+written names m forms l spelled is = record {
+  core = plain_module l.«module»;
+  read = read_back names m forms l spelled is;
+  outline = is.outline;
+  let_form = is.let_form;
+  shallow = is.shallow;
+  means = is.means;
+}
+
+pub printed : (names : Texts) (m : ModuleTree) (forms : List (List Token)) (l : Lowered) → SpellsModule names m forms → IsLoweredTo names m l → IsPrinted (text_in l)
+printed names m forms l spelled is = record {
+  names = l.names;
+  core = plain_module l.«module»;
+  read = read_back names m forms l spelled is;
+  is = refl;
+}

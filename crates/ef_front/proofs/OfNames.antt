@@ -8,7 +8,7 @@ use Rattle.ef_token.specs.declared.token.Token.{Token}
 use Rattle.ef_scan.specs.Scan.{joined}
 use Rattle.ef_forms.specs.declared.form.FunctionRef.{FunctionRef}
 use Rattle.ef_forms.specs.declared.tables.FunctionName.{FunctionName}
-use Rattle.ef_forms.specs.Tree.{Tree, Shape, Trees, Clauses, FunctionTree, FormTree, PlacedTree, tree, int, atom, var, any, list, list_to, tuple, matching, call, remote, case_of, end, more, no_clauses, clause, module_name, export, function}
+use Rattle.ef_forms.specs.Tree.{Tree, Shape, Trees, Guards, Clauses, FunctionTree, FormTree, PlacedTree, tree, int, atom, var, any, list, list_to, tuple, matching, call, remote, case_of, end, more, no_guard, or_guard, no_clauses, clause, module_name, export, function}
 use Rattle.ef_forms.specs.Built.{Each, name_of, key_of, functions_of, functions_in, exports_of, exports_in, defined_in}
 use Rattle.ef_parse.specs.Grammar.{Spells, SpellsAll, SpellsSome, SpellsBranch, SpellsBranches, SpellsClause, SpellsClauses, max_level, a_variable, an_underscore, an_atom, an_integer, parentheses, a_list, a_list_to, a_tuple, a_match, a_call, a_remote, a_case, nothing, some, one, and_more, a_branch, one_branch, and_branches, a_clause, one_clause, and_clauses}
 use Rattle.ef_base.specs.Texts.{Texts}
@@ -46,9 +46,13 @@ module _ (Q : Name → Type 0) where
     TreesOf end = Unit {0}
     TreesOf (more e es) = TreeOf e × TreesOf es
 
+    pub GuardsOf : Guards → Type 0
+    GuardsOf no_guard = Unit {0}
+    GuardsOf (or_guard es gs) = TreesOf es × GuardsOf gs
+
     pub ClausesOf : Clauses → Type 0
     ClausesOf no_clauses = Unit {0}
-    ClausesOf (clause p ps g body cs) = TreesOf ps × TreesOf body × ClausesOf cs
+    ClausesOf (clause p ps g body cs) = TreesOf ps × GuardsOf g × TreesOf body × ClausesOf cs
 
   abbrev pub FunctionOf : FunctionTree → Type 0
   FunctionOf f = Q f.name × ClausesOf f.clauses
@@ -110,9 +114,9 @@ module _ (Q : Name → Type 0) where
       branch_of p ps es d ts (a_branch l es' k c g q ls ys s ss) h = ((tree_of l k c ls s (first ls _ h), tt), some_of es' g ys ss (second ls _ h).1)
 
       branches_of : (cs : Clauses) (d : ℕ) (ts : List Token) → SpellsBranches all cs d ts → TokensOf ts → ClausesOf cs
-      branches_of cs d ts (one_branch p ps es d' ts' s) h = let here = branch_of p ps es d' ts' s h in (here.0, here.1, tt)
+      branches_of cs d ts (one_branch p ps es d' ts' s) h = let here = branch_of p ps es d' ts' s h in (here.0, tt, here.1, tt)
       branches_of cs d ts (and_branches p ps es cs' d' g q ts' us s ss) h =
-          let here = branch_of p ps es d' ts' s (first ts' _ h) in (here.0, here.1, branches_of cs' g us ss (second ts' _ h).1)
+          let here = branch_of p ps es d' ts' s (first ts' _ h) in (here.0, tt, here.1, branches_of cs' g us ss (second ts' _ h).1)
 
     clause_of : (n : Name) (p : Place) (ps es : Trees) (d : ℕ) (ts : List Token) → SpellsClause all n p ps es d ts → TokensOf ts → Q n × TreesOf ps × TreesOf es
     clause_of n p ps es d ts (a_clause n' ps' es' c g p' q r s xs ys ss ss') h =
@@ -120,9 +124,9 @@ module _ (Q : Name → Type 0) where
 
     clauses_of : (n : Name) (cs : Clauses) (d : ℕ) (ts : List Token) → SpellsClauses all n cs d ts → TokensOf ts → Q n × ClausesOf cs
     clauses_of n cs d ts (one_clause n' p ps es d' ts' s) h =
-        let here = clause_of n' p ps es d' ts' s h in (here.0, (here.1, here.2, tt))
+        let here = clause_of n' p ps es d' ts' s h in (here.0, (here.1, tt, here.2, tt))
     clauses_of n cs d ts (and_clauses n' p ps es cs' d' g q ts' us s ss) h =
-        let here = clause_of n' p ps es d' ts' s (first ts' _ h) in (here.0, (here.1, here.2, (clauses_of n' cs' g us ss (second ts' _ h).1).1))
+        let here = clause_of n' p ps es d' ts' s (first ts' _ h) in (here.0, (here.1, tt, here.2, (clauses_of n' cs' g us ss (second ts' _ h).1).1))
 
   reference_of : (f : FunctionRef) (ts : List Token) → SpellsReference f ts → TokensOf ts → Q f.name
   reference_of f ts (a_reference n arity p q u) h = h.0

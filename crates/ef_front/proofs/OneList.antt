@@ -2,13 +2,14 @@
 use Rattle.std.proofs.Common.{◌≡◌, ◌<◌, ◌≤◌, ◌⊎◌, inl, inr, ℕ, List, [], ◌∷◌, length, sym, ◌∙◌, subst, arith, Option, None, Some}
 use Rattle.ef_base.specs.declared.fault.Fault.{Fault}
 use Rattle.ef_io.specs.Sources.{Files}
-use Rattle.ef_front.specs.Source.{HasFaults, at_start}
+use Rattle.ef_base.specs.NamedFaults as fault
+use Rattle.ef_front.specs.Source.{HasFaults}
 use Rattle.ef_front.specs.Input.{limit, HasFaultsAt, AreFaults}
 use Rattle.ef_front.proofs.OneSource.{one_faults}
 
 abbrev IsOfSize : List ℕ → List Fault → Type 0
 IsOfSize source faults =
-    ((limit < length source) × (faults ≡ at_start 308 [] ∷ at_start 601 [] ∷ [])) ⊎ ((length source ≤ limit) × HasFaults source faults)
+    ((limit < length source) × (faults ≡ fault.no_module ∷ fault.file_too_large ∷ [])) ⊎ ((length source ≤ limit) × HasFaults source faults)
 
 of_size : (source : List ℕ) (xs ys : List Fault) → IsOfSize source xs → IsOfSize source ys → xs ≡ ys
 of_size source xs ys (inl a) (inl b) = a.1 ∙ sym b.1

@@ -182,7 +182,7 @@ module _ (a b : Texts) (r : Name → Name) (differ : AllDiffer b) where
       built_clauses arity no_clauses k h = tt
       built_clauses arity (clause p ps (or_guard es gs) body cs) k h = absurd h
       built_clauses arity (clause p ps no_guard body cs) k h =
-          (same_count r ps ∙ h.0, patterns ps h.1, subst (λ n. 1 ≤ n) (sym (same_count r body)) h.2, built_all body k.1 h.3, built_clauses arity cs k.2 h.4)
+          (same_count r ps ∙ h.0, patterns ps h.1, subst (λ n. 1 ≤ n) (sym (same_count r body)) h.2, built_all body k.2 h.3, built_clauses arity cs k.3 h.4)
 
     built_functions : (fs : List FunctionTree) → Each (FunctionOf (Keeps a b r)) fs → Each (IsBuiltFunction b defined) fs → Each (IsBuiltFunction a (map (renamed_key r) defined)) (map (renamed_function r) fs)
     built_functions [] k h = tt

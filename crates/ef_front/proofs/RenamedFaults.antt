@@ -1,16 +1,15 @@
 -- A module under other names of the same texts has the same faults.
-use Rattle.std.proofs.Common.{◌≡◌, ◌==◌, ◌||◌, ◌&&◌, ℕ, Bool, true, false, if◌then◌else◌, List, [], ◌∷◌, ◌++◌, refl, sym, ap, ap₂, map}
+use Rattle.std.proofs.Common.{◌≡◌, ◌==◌, ◌||◌, ◌&&◌, ℕ, Bool, true, false, List, [], ◌∷◌, ◌++◌, refl, sym, ap, ap₂, map}
 use Rattle.std.specs.List.{flat_map}
 use Rattle.std.proofs.lemmas.Bool.Decides.{Decides-eqb}
 use Rattle.ef_base.specs.declared.fault.Place.{Place}
-use Rattle.ef_base.specs.declared.fault.Fault.{Fault}
 use Rattle.ef_base.specs.declared.name.Name.{Name}
 use Rattle.ef_base.specs.Texts.{Texts, AllDiffer}
-use Rattle.ef_forms.specs.Tree.{Tree, Shape, Trees, Clauses, FormTree, PlacedTree, tree, int, atom, var, any, list, list_to, tuple, matching, call, remote, case_of, end, more, no_clauses, clause, module_name, export, function}
-use Rattle.ef_forms.specs.Ways.{NameSet, Way, no_names, one_name, union, bind, or_else, before, beside, ways, shape_ways, side_by_side, body_ways, clauses_ways, names, shape_names, all_names, clauses_names, on_some, on_all, use_faults, name_faults, pattern_faults, pattern_shape_faults, patterns_faults, pattern_clauses_faults, faults, shape_faults, all_faults, body_faults, clauses_faults}
+use Rattle.ef_forms.specs.Tree.{Tree, Shape, Trees, Guards, Clauses, FormTree, PlacedTree, tree, int, atom, var, any, list, list_to, tuple, matching, call, remote, case_of, end, more, no_guard, or_guard, no_clauses, clause, module_name, export, function}
+use Rattle.ef_forms.specs.Ways.{NameSet, Way, no_names, one_name, union, bind, or_else, before, beside, ways, shape_ways, side_by_side, body_ways, clauses_ways, names, shape_names, all_names, guards_names, clauses_names, on_some, on_all, use_faults, name_faults, pattern_faults, pattern_shape_faults, patterns_faults, pattern_guards_faults, pattern_clauses_faults, faults, shape_faults, all_faults, body_faults, guards_faults, clauses_faults}
 use Rattle.ef_front.specs.Source.{form_faults, forms_faults}
-use Rattle.ef_front.proofs.Renaming.{Keeps, renamed, renamed_shape, renamed_all, renamed_clauses, renamed_form, renamed_placed}
-use Rattle.ef_front.proofs.OfNames.{TreeOf, ShapeOf, TreesOf, ClausesOf, FormOf, FormsOf}
+use Rattle.ef_front.proofs.Renaming.{Keeps, renamed, renamed_shape, renamed_all, renamed_guards, renamed_clauses, renamed_form, renamed_placed}
+use Rattle.ef_front.proofs.OfNames.{TreeOf, ShapeOf, TreesOf, GuardsOf, ClausesOf, FormOf, FormsOf}
 use Rattle.ef_front.proofs.RenamedBuilt.{injective}
 
 same_test : (p q : Bool) → (p ≡ true → q ≡ true) → (q ≡ true → p ≡ true) → p ≡ q
@@ -101,11 +100,19 @@ module _ (a b : Texts) (r : Name → Name) (differ : AllDiffer b) where
     all_names_alike (more e es) k =
         alike_union (names (renamed r e)) (names e) (all_names (renamed_all r es)) (all_names es) (names_alike e k.0) (all_names_alike es k.1)
 
+    guards_names_alike : (gs : Guards) → GuardsOf (Keeps a b r) gs → Alike (guards_names (renamed_guards r gs)) (guards_names gs)
+    guards_names_alike no_guard k = λ n l. refl
+    guards_names_alike (or_guard es gs) k =
+        alike_union (all_names (renamed_all r es)) (all_names es) (guards_names (renamed_guards r gs)) (guards_names gs) (all_names_alike es k.0) (guards_names_alike gs k.1)
+
     clauses_names_alike : (cs : Clauses) → ClausesOf (Keeps a b r) cs → Alike (clauses_names (renamed_clauses r cs)) (clauses_names cs)
     clauses_names_alike no_clauses k = λ n l. refl
     clauses_names_alike (clause p ps g body cs) k =
-        alike_union (all_names (renamed_all r ps)) (all_names ps) (union (all_names (renamed_all r body)) (clauses_names (renamed_clauses r cs))) (union (all_names body) (clauses_names cs)) (all_names_alike ps k.0)
-        (alike_union (all_names (renamed_all r body)) (all_names body) (clauses_names (renamed_clauses r cs)) (clauses_names cs) (all_names_alike body k.1) (clauses_names_alike cs k.2))
+        let behind_guard = alike_union (all_names (renamed_all r body)) (all_names body) (clauses_names (renamed_clauses r cs)) (clauses_names cs) (all_names_alike body k.2) (clauses_names_alike cs k.3) in
+        alike_union (all_names (renamed_all r ps)) (all_names ps)
+        (union (guards_names (renamed_guards r g)) (union (all_names (renamed_all r body)) (clauses_names (renamed_clauses r cs)))) (union (guards_names g) (union (all_names body) (clauses_names cs))) (all_names_alike ps k.0)
+        (alike_union (guards_names (renamed_guards r g)) (guards_names g) (union (all_names (renamed_all r body)) (clauses_names (renamed_clauses r cs))) (union (all_names body) (clauses_names cs))
+        (guards_names_alike g k.1) behind_guard)
 
   mutual
     ways_alike : (e : Tree) → TreeOf (Keeps a b r) e → WaysAlike (ways (renamed r e)) (ways e)
@@ -145,13 +152,13 @@ module _ (a b : Texts) (r : Name → Name) (differ : AllDiffer b) where
     clauses_ways_alike no_clauses k = λ s t h. (h, tt)
     clauses_ways_alike (clause p ps g body no_clauses) k =
         alike_before (bind (all_names (renamed_all r ps))) (bind (all_names ps)) (body_ways (renamed_all r body)) (body_ways body)
-        (alike_bind (all_names (renamed_all r ps)) (all_names ps) (all_names_alike ps k.0)) (body_ways_alike body k.1)
+        (alike_bind (all_names (renamed_all r ps)) (all_names ps) (all_names_alike ps k.0)) (body_ways_alike body k.2)
     clauses_ways_alike (clause p ps g body (clause q qs h d cs)) k =
         alike_or_else (before (bind (all_names (renamed_all r ps))) (body_ways (renamed_all r body))) (before (bind (all_names ps)) (body_ways body))
         (clauses_ways (renamed_clauses r (clause q qs h d cs))) (clauses_ways (clause q qs h d cs))
         (alike_before (bind (all_names (renamed_all r ps))) (bind (all_names ps)) (body_ways (renamed_all r body)) (body_ways body)
-        (alike_bind (all_names (renamed_all r ps)) (all_names ps) (all_names_alike ps k.0)) (body_ways_alike body k.1))
-        (clauses_ways_alike (clause q qs h d cs) k.2)
+        (alike_bind (all_names (renamed_all r ps)) (all_names ps) (all_names_alike ps k.0)) (body_ways_alike body k.2))
+        (clauses_ways_alike (clause q qs h d cs) k.3)
 
   -- ---- faults
 
@@ -201,10 +208,14 @@ module _ (a b : Texts) (r : Name → Name) (differ : AllDiffer b) where
     patterns_alike end ss ts k h = refl
     patterns_alike (more e es) ss ts k h = both (pattern_alike e ss ts k.0 h) (patterns_alike es ss ts k.1 h)
 
+    pattern_guards_alike : (gs : Guards) (ss ts : List NameSet) → GuardsOf (Keeps a b r) gs → AllAlike ss ts → pattern_guards_faults a (renamed_guards r gs) ss ≡ pattern_guards_faults b gs ts
+    pattern_guards_alike no_guard ss ts k h = refl
+    pattern_guards_alike (or_guard es gs) ss ts k h = both (patterns_alike es ss ts k.0 h) (pattern_guards_alike gs ss ts k.1 h)
+
     pattern_clauses_alike : (cs : Clauses) (ss ts : List NameSet) → ClausesOf (Keeps a b r) cs → AllAlike ss ts → pattern_clauses_faults a (renamed_clauses r cs) ss ≡ pattern_clauses_faults b cs ts
     pattern_clauses_alike no_clauses ss ts k h = refl
     pattern_clauses_alike (clause p ps g body cs) ss ts k h =
-        both (patterns_alike ps ss ts k.0 h) (both (patterns_alike body ss ts k.1 h) (pattern_clauses_alike cs ss ts k.2 h))
+        both (patterns_alike ps ss ts k.0 h) (both (pattern_guards_alike g ss ts k.1 h) (both (patterns_alike body ss ts k.2 h) (pattern_clauses_alike cs ss ts k.3 h)))
 
   mutual
     faults_alike : (e : Tree) (ss ts : List NameSet) → TreeOf (Keeps a b r) e → AllAlike ss ts → faults a (renamed r e) ss ≡ faults b e ts
@@ -235,13 +246,19 @@ module _ (a b : Texts) (r : Name → Name) (differ : AllDiffer b) where
     body_alike (more e es) ss ts k h =
         both (faults_alike e ss ts k.0 h) (body_alike es (flat_map (ways (renamed r e)) ss) (flat_map (ways e) ts) k.1 (behind e ss ts k.0 h))
 
+    guards_alike : (gs : Guards) (ss ts : List NameSet) → GuardsOf (Keeps a b r) gs → AllAlike ss ts → guards_faults a (renamed_guards r gs) ss ≡ guards_faults b gs ts
+    guards_alike no_guard ss ts k h = refl
+    guards_alike (or_guard es gs) ss ts k h =
+        both (body_alike es ss ts k.0 h)
+        (guards_alike gs (flat_map (body_ways (renamed_all r es)) ss) (flat_map (body_ways es) ts) k.1 (alike_flat (body_ways (renamed_all r es)) (body_ways es) ss ts (body_ways_alike es k.0) h))
+
     clauses_alike : (cs : Clauses) (ss ts : List NameSet) → ClausesOf (Keeps a b r) cs → AllAlike ss ts → clauses_faults a (renamed_clauses r cs) ss ≡ clauses_faults b cs ts
     clauses_alike no_clauses ss ts k h = refl
     clauses_alike (clause p ps g body cs) ss ts k h =
-        both (patterns_alike ps ss ts k.0 h)
-        (both (body_alike body (flat_map (bind (all_names (renamed_all r ps))) ss) (flat_map (bind (all_names ps)) ts) k.1
-        (alike_flat (bind (all_names (renamed_all r ps))) (bind (all_names ps)) ss ts (alike_bind (all_names (renamed_all r ps)) (all_names ps) (all_names_alike ps k.0)) h))
-        (clauses_alike cs ss ts k.2 h))
+        let us = flat_map (bind (all_names (renamed_all r ps))) ss in
+        let vs = flat_map (bind (all_names ps)) ts in
+        let inside = alike_flat (bind (all_names (renamed_all r ps))) (bind (all_names ps)) ss ts (alike_bind (all_names (renamed_all r ps)) (all_names ps) (all_names_alike ps k.0)) h in
+        both (patterns_alike ps ss ts k.0 h) (both (guards_alike g us vs k.1 inside) (both (body_alike body us vs k.2 inside) (clauses_alike cs ss ts k.3 h)))
 
   form_alike : (f : FormTree) → FormOf (Keeps a b r) f → form_faults a (renamed_form r f) ≡ form_faults b f
   form_alike (module_name n) k = refl

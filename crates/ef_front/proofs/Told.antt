@@ -12,7 +12,8 @@ use Rattle.ef_base.specs.declared.fault.Fault.{Fault}
 use Rattle.ef_front.specs.declared.job.Job.{Job}
 use Rattle.ef_front.specs.Lines.{image, usage_line}
 use Rattle.ef_front.specs.Input.{AreFaults}
-use Rattle.ef_front.specs.Runs.{EndsWith, nothing, of_usage, of_faults, Prints, Reports, Refuses}
+use Rattle.ef_front.specs.Runs.{EndsWith, Prints, nothing, of_usage, of_faults}
+use Rattle.ef_front.specs.Parts.{Reports, Refuses}
 
 pub rose_on : (old mid new : ℕ) → old ≤ mid → Rose old mid → mid ≤ new → Rose old new
 rose_on old mid new le (inl above) later = inl (omega arith)
@@ -60,3 +61,10 @@ prints_usage job files failed old new status.Faults none told = absurd told
 prints_usage job files failed old new status.NoMemory none told = absurd told
 prints_usage job files failed old new status.Written none told = absurd told
 prints_usage job files failed old new status.ReadFault none told = absurd told
+
+-- neither is a module written
+pub reports_unwritten : (lines : List ℕ) (old new : SinkView) (result : Status) → Reports lines old new result → result ≢ status.Written
+reports_unwritten lines old new result told is = subst (Reports lines old new) is told
+
+pub refuses_unwritten : (old new : SinkView) (result : Status) → Refuses old new result → result ≢ status.Written
+refuses_unwritten old new result told is = subst (Refuses old new) is told

@@ -3,7 +3,8 @@ use Rattle.std.specs.Prelude.{List, [], ◌∷◌, ◌≡◌, ◌≢◌, ◌⊎�
 use Rattle.std.specs.List.{flat_map}
 use Rattle.ef_base.specs.declared.fault.Fault.{Fault}
 use Rattle.ef_base.specs.Faults.{set_of}
-use Rattle.ef_base.specs.Texts.{Texts, AllUtf8, Extends}
+use Rattle.ef_base.specs.NamedFaults.{not_built}
+use Rattle.ef_base.specs.Texts.{Texts, AllDiffer, AllUtf8, Extends}
 use Rattle.ef_token.specs.declared.token.Token.{Token}
 use Rattle.ef_token.specs.declared.token.ScannedForm.{ScannedForm}
 use Rattle.ef_token.specs.declared.token.ScannedForm.TheVariants.{Tokens, Faulty as faulty_form}
@@ -13,13 +14,14 @@ use Rattle.ef_module.specs.Forms.{SpellsModule}
 use Rattle.ef_core.specs.Plain.{plain_module}
 use Rattle.ef_core.specs.Readable.{IsReadable}
 use Rattle.ef_lowmod.specs.Function.{IsLight}
+use Rattle.ef_lowmod.specs.Form.{HasLetForm, IsShallowFor}
 use Rattle.ef_lowmod.specs.Outline.{Outline}
 use Rattle.ef_meaning.specs.Runs.{KeepsMeaning}
 use Rattle.ef_front.specs.declared.compiling.Lowered.{Lowered}
 use Rattle.ef_front.specs.declared.compiling.Compiled.{Compiled}
 use Rattle.ef_front.specs.declared.compiling.Compiled.TheVariants.{Module, Faulty}
-use Rattle.ef_front.specs.Source.{module_faults, at_start}
-use Rattle.ef_front.specs.Runs.{IsWritable}
+use Rattle.ef_front.specs.Source.{module_faults}
+use Rattle.ef_front.specs.Compiled.{IsWritable}
 
 -- the fault of a faulty form, and the tokens of another
 abbrev pub fault_of : ScannedForm → List Fault
@@ -39,19 +41,22 @@ pub record AreTaken (scanned : List ScannedForm) (faults : List Fault) (forms : 
 abbrev pub SpellLight : List (List Token) → Type 0
 SpellLight forms = (all : Texts) (m : ModuleTree) → SpellsModule all m forms → Each IsLight (functions_in m.forms)
 
--- the Core module has the outline of the module, can be written, is one that a text says, and keeps the meaning of the
--- module
+-- the Core module has the outline of the module, is in let form and shallow, can be written, is one that a text says, and
+-- keeps the meaning of the module
 pub record IsLoweredTo (names : Texts) (m : ModuleTree) (l : Lowered) : Type 0 where
   pub extends : Extends names l.names
   pub utf8 : AllUtf8 l.names
+  pub differ : AllDiffer l.names
   pub outline : Outline l.names m (plain_module l.«module»)
+  pub let_form : HasLetForm (plain_module l.«module»)
+  pub shallow : IsShallowFor m (plain_module l.«module»)
   pub readable : IsReadable l.names (plain_module l.«module»)
   pub means : KeepsMeaning l.names m (plain_module l.«module»)
   pub writable : IsWritable l
 
 -- the one fault of what is not built
 abbrev pub IsNotBuilt : List Fault → Type 0
-IsNotBuilt faults = faults ≡ at_start 500 [] ∷ []
+IsNotBuilt faults = faults ≡ not_built ∷ []
 
 -- a module that is built, and its faults
 pub record IsFaulty (names : Texts) (m : ModuleTree) (faults : List Fault) : Type 0 where

@@ -9,7 +9,7 @@ use Rattle.ef_io.specs.declared.status.Status.TheVariants as status
 use Rattle.ef_front.specs.declared.job.Job.{Job}
 use Rattle.ef_front.specs.Lines.{image}
 use Rattle.ef_front.specs.Input.{AreFaults}
-use Rattle.ef_front.specs.Runs.{HoldsText, IsUncreated}
+use Rattle.ef_front.specs.Created.{HoldsText, IsUncreated}
 
 -- the faults are printed and nothing is created; or, without faults, nothing is printed and a text is written
 abbrev pub Shows : List Fault → Job → Option Files → Status → SinkView → SinkView → SinkView → SinkView → Type 0

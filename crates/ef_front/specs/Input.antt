@@ -1,8 +1,9 @@
 -- The faults and the texts of a file, which may be absent or too large.
 use Rattle.std.specs.Prelude.{ℕ, ◌<◌, ◌≤◌, List, [], ◌∷◌, ◌≡◌, ◌⊎◌, Option, None, Some, length}
 use Rattle.ef_base.specs.declared.fault.Fault.{Fault}
+use Rattle.ef_base.specs.NamedFaults as fault
 use Rattle.ef_io.specs.Sources.{Files}
-use Rattle.ef_front.specs.Source.{HasFaults, IsTextFor, at_start}
+use Rattle.ef_front.specs.Source.{HasFaults, IsTextFor}
 
 -- the most bytes of a file
 abbrev pub limit : ℕ
@@ -10,9 +11,9 @@ limit = 4194304
 
 -- the faults of what was found at the path, sorted
 abbrev pub HasFaultsAt : List ℕ → Option (List ℕ) → List Fault → Type 0
-HasFaultsAt path None faults = faults ≡ at_start 232 path ∷ at_start 308 [] ∷ []
+HasFaultsAt path None faults = faults ≡ fault.no_file path ∷ fault.no_module ∷ []
 HasFaultsAt path (Some source) faults =
-    ((limit < length source) × (faults ≡ at_start 308 [] ∷ at_start 601 [] ∷ []))
+    ((limit < length source) × (faults ≡ fault.no_module ∷ fault.file_too_large ∷ []))
     ⊎ ((length source ≤ limit) × HasFaults source faults)
 
 -- what is found at a path: where the map is told, what it says

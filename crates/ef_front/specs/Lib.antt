@@ -1,9 +1,13 @@
 pub mod Words
 pub mod Written
+pub mod Printed
 pub mod Source
 pub mod Input
 pub mod Lines
+pub mod Created
 pub mod Runs
+pub mod Compiled
+pub mod Parts
 pub mod Compiles
 pub mod Headline
 pub mod Buffered

@@ -1,61 +1,18 @@
--- What a run does to the objects that it was given.
-use Rattle.std.specs.Prelude.{ℕ, ◌≤◌, List, [], ◌++◌, ◌≡◌, ◌≢◌, ◌⊎◌, take, false, Option, None, Some, Result, Ok, Err}
+-- What a run prints, and where the counts of faults rise, under each status.
+use Rattle.std.specs.Prelude.{ℕ, ◌≤◌, List, [], ◌++◌, ◌≡◌, ◌≢◌, ◌⊎◌, take, Option, None, Some}
 use Rattle.ef_base.specs.declared.fault.Fault.{Fault}
 use Rattle.ef_io.specs.Count.{Rose}
 use Rattle.ef_io.specs.Sources.{Files, SourcesView}
 use Rattle.ef_io.specs.Sink.{SinkView, IsAppended}
-use Rattle.ef_io.specs.declared.sink.Failed.{Failed}
 use Rattle.ef_io.specs.declared.status.Status.{Status}
 use Rattle.ef_io.specs.declared.status.Status.TheVariants as status
-use Rattle.ef_core.specs.Layout.{text_of}
-use Rattle.ef_core.specs.OfTable.{CoreModuleOf}
-use Rattle.ef_core.specs.Plain.{plain_module}
-use Rattle.ef_front.specs.declared.compiling.Lowered.{Lowered}
-use Rattle.ef_front.specs.declared.compiling.Compiled.{Compiled}
-use Rattle.ef_front.specs.declared.compiling.Compiled.TheVariants.{Module, Faulty}
-use Rattle.ef_front.specs.declared.compiling.Stop.{Stop}
-use Rattle.ef_front.specs.declared.compiling.Stop.TheVariants.{ReadFault, NoMemory}
 use Rattle.ef_front.specs.declared.job.Job.{Job}
 use Rattle.ef_front.specs.Lines.{usage_line, memory_line, write_line, read_line, image}
-use Rattle.ef_front.specs.Source.{HasFaults, IsTextFor}
-use Rattle.ef_front.specs.Input.{AreFaults, MayBeWritten}
-
--- ---- what is read
-
--- the count and the kept path are as they were
-pub record HasSameCount (old new : SourcesView) : Type 0 where
-  pub faults : new.faults ≡ old.faults
-  pub failed : new.failed ≡ old.failed
-
--- the text of a Core module over its names
-abbrev pub text_in : Lowered → List ℕ
-text_in l = text_of l.names (plain_module l.«module»)
-
--- the names of the module are of its table, and nothing is gathered
-abbrev pub IsWritable : Lowered → Type 0
-IsWritable l = CoreModuleOf l.names (plain_module l.«module») × (l.buffer.items ≡ [])
-
--- what is made of a source
-abbrev pub IsCompiledText : List ℕ → Compiled → Type 0
-IsCompiledText source (Module l) = HasFaults source [] × IsTextFor source (text_in l) × IsWritable l
-IsCompiledText source (Faulty faults) = HasFaults source faults × (faults ≢ [])
-
--- what is made of the file at a path
-abbrev pub IsCompiled : Option Files → List ℕ → Compiled → Type 0
-IsCompiled files path (Module l) = MayBeWritten files path (text_in l) × IsWritable l
-IsCompiled files path (Faulty faults) = AreFaults files path faults × (faults ≢ [])
+use Rattle.ef_front.specs.Input.{AreFaults}
 
 -- a path that a run for this file tries: this path alone
 abbrev pub IsTried : List ℕ → List ℕ → Type 0
 IsTried path tried = tried ≡ path
-
--- a read fault is told only where a read failed, with its path, which the run tries
-abbrev pub HasStop : SourcesView → SourcesView → List ℕ → Stop → Type 0
-HasStop old new path (ReadFault tried) =
-    (old.faults ≤ new.faults) × Rose old.faults new.faults × (new.failed ≡ Some tried) × IsTried path tried
-HasStop old new path NoMemory = old.faults ≤ new.faults
-
--- ---- what is printed
 
 -- after what was said, a front part of the line, which is whole where the count did not rise
 pub record EndsWith (old new : SinkView) (said line : List ℕ) : Type 0 where
@@ -85,43 +42,6 @@ Prints status.ReadFault (Some job) files failed old new =
 Prints status.WriteFault job files failed old new =
     (said : List ℕ) × IsSaid job files said × EndsWith old new said write_line
 
--- ---- what is created
-
--- told bytes, in their place these
-abbrev pub told_as : Option (List ℕ) → List ℕ → Option (List ℕ)
-told_as None bytes = None
-told_as (Some _) bytes = Some bytes
-
--- nothing is created
-pub record IsUncreated (new : SinkView) : Type 0 where
-  pub is_open : new.is_open ≡ false
-  pub created : new.created ≡ None
-
--- the output holds a text that may be written, and its path is that of the job
-pub record HoldsText (job : Job) (files : Option Files) (old new : SinkView) : Type 0 where
-  pub text : List ℕ
-  pub may_be : MayBeWritten files job.path text
-  pub created : new.created ≡ Some job.out
-  pub written : new.written ≡ told_as old.written text
-
--- the same of a front part of such a text
-pub record HoldsFront (job : Job) (files : Option Files) (old new : SinkView) : Type 0 where
-  pub text : List ℕ
-  pub may_be : MayBeWritten files job.path text
-  pub created : new.created ≡ Some job.out
-  pub held : ℕ
-  pub written : new.written ≡ told_as old.written (take held text)
-
--- what is created under each status
-abbrev pub Creates : Status → Option Job → Option Files → SinkView → SinkView → Type 0
-Creates status.Written None files old new = ⊥
-Creates status.Written (Some job) files old new = HoldsText job files old new
-Creates status.WriteFault None files old new = IsUncreated new
-Creates status.WriteFault (Some job) files old new = IsUncreated new ⊎ HoldsFront job files old new
-Creates _ job files old new = IsUncreated new
-
--- ---- counts of faults
-
 -- where the counts rose under each status; no count falls
 abbrev pub Counts : Status → SourcesView → SourcesView → ℕ → ℕ → ℕ → ℕ → Type 0
 Counts status.ReadFault from to output output' diag diag' = Rose from.faults to.faults × (output' ≡ output) × (diag ≤ diag')
@@ -129,45 +49,6 @@ Counts status.WriteFault from to output output' diag diag' =
     (Rose output output' ⊎ Rose diag diag') × (to.faults ≡ from.faults) × (output ≤ output') × (diag ≤ diag')
 Counts status.NoMemory from to output output' diag diag' = (from.faults ≤ to.faults) × (output' ≡ output) × (diag ≤ diag')
 Counts _ from to output output' diag diag' = (to.faults ≡ from.faults) × (output' ≡ output) × (diag' ≡ diag)
-
--- ---- the parts of a run
-
--- the text is told; at a fault, a front part of it and then the line of the write fault
-abbrev pub Tells : SinkView → SinkView → List ℕ → Result Unit Failed → Type 0
-Tells old new text (Ok _) = IsAppended old new text × (new.faults ≡ old.faults)
-Tells old new text (Err _) =
-    ((n : ℕ) × EndsWith old new (take n text) write_line) × (old.faults ≤ new.faults) × Rose old.faults new.faults
-
--- the output is created and holds the text; at a fault, it is not created or holds a front part
-abbrev pub Produces : List ℕ → List ℕ → SinkView → SinkView → Result Unit Failed → Type 0
-Produces out text old new (Ok _) = (new.created ≡ Some out) × (new.written ≡ told_as old.written text) × (new.faults ≡ old.faults)
-Produces out text old new (Err _) =
-    (IsUncreated new ⊎ ((new.created ≡ Some out) × ((n : ℕ) × (new.written ≡ told_as old.written (take n text)))))
-    × (old.faults ≤ new.faults) × Rose old.faults new.faults
-
--- the same, and at a fault the line of the write fault
-abbrev pub Delivers : List ℕ → List ℕ → SinkView → SinkView → SinkView → SinkView → Status → Type 0
-Delivers out text output output' diag diag' status.Written =
-    (output'.created ≡ Some out) × (output'.written ≡ told_as output.written text) × (output'.faults ≡ output.faults) × (diag' ≡ diag)
-Delivers out text output output' diag diag' status.WriteFault =
-    (IsUncreated output' ⊎ ((output'.created ≡ Some out) × ((n : ℕ) × (output'.written ≡ told_as output.written (take n text)))))
-    × EndsWith diag diag' [] write_line × (output.faults ≤ output'.faults) × Rose output.faults output'.faults × (diag.faults ≤ diag'.faults)
-Delivers out text output output' diag diag' _ = ⊥
-
--- the usage line is told
-abbrev pub Refuses : SinkView → SinkView → Status → Type 0
-Refuses old new status.Words = IsAppended old new usage_line × (new.faults ≡ old.faults)
-Refuses old new status.WriteFault =
-    ((n : ℕ) × EndsWith old new (take n usage_line) write_line) × (old.faults ≤ new.faults) × Rose old.faults new.faults
-Refuses old new _ = ⊥
-
--- these lines are told
-abbrev pub Reports : List ℕ → SinkView → SinkView → Status → Type 0
-Reports lines old new status.Faults = IsAppended old new lines × (new.faults ≡ old.faults)
-Reports lines old new status.WriteFault =
-    ((n : ℕ) × EndsWith old new (take n lines) write_line) × (old.faults ≤ new.faults) × Rose old.faults new.faults
-Reports lines old new status.NoMemory = EndsWith old new [] memory_line × (old.faults ≤ new.faults)
-Reports lines old new _ = ⊥
 
 -- without a job nothing is read or created, and the answer is status 2 unless `diag` failed or memory ran out
 pub record IsIdle (from to : SourcesView) (output output' diag diag' : SinkView) (result : Status) : Type 0 where

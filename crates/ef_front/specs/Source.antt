@@ -3,8 +3,8 @@ use Rattle.std.specs.Prelude.{ℕ, List, [], ◌∷◌, ◌≡◌, ◌≢◌}
 use Rattle.std.specs.List.{flat_map}
 use Rattle.ef_base.specs.declared.fault.Fault.{Fault}
 use Rattle.ef_base.specs.Faults.{set_of}
-use Rattle.ef_base.specs.Positions.{first_position, place_at}
-use Rattle.ef_base.specs.Texts.{Texts, AllDiffer, Extends}
+use Rattle.ef_base.specs.NamedFaults as fault
+use Rattle.ef_base.specs.Texts.{Texts, AllDiffer, AllUtf8, Extends}
 use Rattle.ef_token.specs.declared.token.Token.{Token}
 use Rattle.ef_scan.specs.Scan.{Form, tokens, faulty, Scans, ScansTo}
 use Rattle.ef_forms.specs.Tree.{FormTree, PlacedTree, ModuleTree, module_name, export, function}
@@ -20,10 +20,6 @@ pub record IsSource (all : Texts) (source : List ℕ) (m : ModuleTree) : Type 0 
   pub scanned : ScansTo all 0 source forms
   pub spelled : SpellsModule all m forms
   pub built : IsBuilt all m
-
--- a fault at the start of the main file
-abbrev pub at_start : ℕ → List ℕ → Fault
-at_start code words = record { place = place_at 0 first_position; code = code; words = words }
 
 -- the faults of a module: those of its functions
 abbrev pub form_faults : Texts → FormTree → List Fault
@@ -50,20 +46,23 @@ HasFaulty forms = faults_in forms ≢ []
 -- the faults of a source, sorted
 pub data HasFaults (source : List ℕ) (faults : List Fault) : Type 0 where
   -- of white space and comments alone: that the module attribute lacks
-  blank : (all : Texts) → Scans all 0 source [] → faults ≡ at_start 308 [] ∷ [] → HasFaults source faults
+  blank : (all : Texts) → Scans all 0 source [] → faults ≡ fault.no_module ∷ [] → HasFaults source faults
   -- where some form is faulty: those of the faulty forms, and no others
   faulty_forms : (all : Texts) (forms : List Form) → Scans all 0 source forms → HasFaulty forms → faults ≡ set_of (faults_in forms) → HasFaults source faults
   -- of a module: those of its functions
   of_module : (all : Texts) (m : ModuleTree) → IsSource all source m → faults ≡ set_of (module_faults all m) → HasFaults source faults
   -- of other forms, of which none is faulty: that they are not built
   not_built : (all : Texts) (form : List Token) (forms : List (List Token)) → ScansTo all 0 source (form ∷ forms)
-      → ((names : Texts) (m : ModuleTree) → IsSource names source m → ⊥) → faults ≡ at_start 500 [] ∷ [] → HasFaults source faults
+      → ((names : Texts) (m : ModuleTree) → IsSource names source m → ⊥) → faults ≡ fault.not_built ∷ [] → HasFaults source faults
 
--- a text that may be written for a source; what the text adds to the names of the source stands in a later table
+-- a text that may be written for a source; what the text adds to the names of the source stands in a later table, in which
+-- no text stands twice
 pub record IsTextFor (source text : List ℕ) : Type 0 where
   pub all : Texts
   pub module_tree : ModuleTree
   pub spelled : IsSource all source module_tree
   pub later : Texts
   pub extends : Extends all later
+  pub differ : AllDiffer later
+  pub utf8 : AllUtf8 later
   pub written : IsWritten later module_tree text

@@ -72,6 +72,3 @@ impl<O: Sink> Sink for Buffered<'_, O> {
         Ok(piece.len())
     }
 }
-
-#[cfg(test)]
-mod tests;

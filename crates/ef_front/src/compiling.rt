@@ -1,6 +1,7 @@
 // From a file to its module in Core or its faults.
 ghost use Rattle.std.specs.Prelude.{◌≡◌, IfOk, IfErr, OnOk, IsUtf8};
-ghost use Rattle.ef_front.specs.Runs.{IsCompiled, HasStop, HasSameCount};
+ghost use Rattle.ef_front.specs.Compiled.{IsCompiled};
+ghost use Rattle.ef_front.specs.Parts.{HasStop, HasSameCount};
 
 use crate::refused::{absent, too_large};
 use crate::source::compile_text;

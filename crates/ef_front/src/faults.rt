@@ -58,15 +58,6 @@ fn add_form(
         return Ok(());
     };
     let faults = scope_faults(alloc, names, function, tables)?;
-    add_all(faults, found)?;
-    Ok(())
-}
-
-fn add_all(faults: FaultList, found: &mut FaultList) -> Result<(), NoMemory>
-    ensures { OnOk result ((before : List TheFault) → found.old ≡ set_of before → found.new ≡ set_of (before ++ faults)) }
-{
-    for fault in faults.into_vec() {
-        found.push(fault)?;
-    }
+    found.append(faults)?;
     Ok(())
 }

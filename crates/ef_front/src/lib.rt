@@ -12,8 +12,7 @@ mod telling;
 mod top;
 mod writing;
 
+pub use compiling::{Compiled, Lowered};
+pub use source::{compile_text, take_forms};
 pub use telling::give_up;
 pub use top::erlfront;
-
-#[cfg(test)]
-mod tests;

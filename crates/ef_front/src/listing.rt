@@ -1,17 +1,18 @@
 // The lines of faults.
 ghost use Rattle.std.specs.Prelude.{◌≡◌, ◌++◌, IfOk, OnOk};
 ghost use Rattle.std.specs.Fmt.{decimal};
-ghost use Rattle.ef_front.specs.Lines.{image, line_of, text_of, wording};
+ghost use Rattle.ef_front.specs.Lines.{image, line_of, text_of};
 
-use ef_base::{Fault, NoMemory};
+use ef_base::codes::wording_of;
+use ef_base::{Fault, FaultList, NoMemory};
 use std::alloc::Global;
 
 /// The lines of the faults in the file of this path, in order.
-pub fn lines(alloc: Global, path: &[u8], faults: &[Fault]) -> Result<Vec<u8>, NoMemory>
+pub fn lines(alloc: Global, path: &[u8], faults: &FaultList) -> Result<Vec<u8>, NoMemory>
     ensures { IfOk result (λ text. text.items ≡ image path.now faults.now) }
 {
     let mut text = Vec::new(alloc);
-    for fault in faults {
+    for fault in faults.iter() {
         push_line(alloc, &mut text, path, fault)?;
     }
     Ok(text)
@@ -38,43 +39,6 @@ fn push_text(text: &mut Vec<u8>, fault: &Fault) -> Result<(), NoMemory>
     text.extend_from_slice(wording.after)?;
     text.extend_from_slice(b"\n")?;
     Ok(())
-}
-
-// What a fault says, before its words and after them.
-#[derive(Clone, Copy)]
-struct Wording {
-    before: &'static [u8],
-    after: &'static [u8],
-}
-
-fn wording_of(code: u16) -> Wording
-    ensures before { result.before.now ≡ (wording code).before }
-    ensures after { result.after.now ≡ (wording code).after }
-{
-    let (before, after): (&[u8], &[u8]) = match code {
-        101 => (b"not UTF-8", b""),
-        102 => (b"illegal character", b""),
-        103 => (b"unterminated text", b""),
-        104 => (b"illegal escape", b""),
-        105 => (b"atom too long", b""),
-        106 => (b"illegal base", b""),
-        107 => (b"illegal number", b""),
-        108 => (b"illegal character literal", b""),
-        110 => (b"missing full stop", b""),
-        112 => (b"latin-1 source", b""),
-        232 => (b"no file ", b""),
-        308 => (b"no module attribute", b""),
-        451 => (b"variable ", b" is unbound"),
-        452 => (b"variable ", b" is unsafe here"),
-        500 => (b"not built", b""),
-        501 => (b"float", b""),
-        504 => (b"integer too large", b""),
-        506 => (b"sigil", b""),
-        507 => (b"triple-quoted string", b""),
-        601 => (b"file too large", b""),
-        _ => (b"", b""),
-    };
-    Wording { before, after }
 }
 
 fn push_number(

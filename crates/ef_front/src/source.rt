@@ -9,7 +9,7 @@ ghost use Rattle.ef_module.specs.Read.{lists};
 ghost use Rattle.ef_lowmod.specs.Function.{IsLight, IsNarrowFunction, IsWhole};
 ghost use Rattle.ef_front.specs.Compiles.{AreTaken, IsCompiledForms, IsCompiledModule, SpellLight};
 ghost use Rattle.ef_front.specs.Input.{limit};
-ghost use Rattle.ef_front.specs.Runs.{IsCompiledText};
+ghost use Rattle.ef_front.specs.Compiled.{IsCompiledText};
 
 use crate::compiling::{Compiled, Lowered};
 use crate::faults::rule_faults;
@@ -37,7 +37,7 @@ pub fn compile_text(alloc: Global, source: &[u8]) -> Result<Compiled, NoMemory>
         return Ok(Compiled::Faulty(blank(alloc)?));
     }
     let taken = take_forms(alloc, scanned)?;
-    if !taken.faults.faults().is_empty() {
+    if !taken.faults.is_empty() {
         return Ok(Compiled::Faulty(taken.faults));
     }
     compile_forms(alloc, names, taken.forms)
@@ -50,6 +50,7 @@ pub struct Taken {
     pub forms: Vec<Vec<Token>>,
 }
 
+/// Parts the forms into those with a fault and the others.
 pub fn take_forms(alloc: Global, scanned: Vec<ScannedForm>) -> Result<Taken, NoMemory>
     ensures { IfOk result (λ taken. AreTaken scanned.items taken.faults (lists taken.forms.items)) }
 {
@@ -108,7 +109,7 @@ fn compile_module(alloc: Global, mut names: Names, module: &Module) -> Result<Co
         return Ok(Compiled::Faulty(not_built(alloc)?));
     }
     let faults = rule_faults(alloc, &names, module, &tables)?;
-    if !faults.faults().is_empty() {
+    if !faults.is_empty() {
         return Ok(Compiled::Faulty(faults));
     }
     let module = lower(alloc, &mut names, module, &tables)?;

@@ -3,7 +3,9 @@ ghost use Rattle.std.specs.Prelude.{◌≡◌, ◌≤◌, ◌++◌, [], true, fa
 ghost use Rattle.ef_io.specs.Sink.{Puts, HasWriteCause, Stays};
 ghost use Rattle.ef_io.specs.declared.status.Status.TheVariants as answer;
 ghost use Rattle.ef_front.specs.Lines.{memory_line, read_line, write_line};
-ghost use Rattle.ef_front.specs.Runs.{EndsWith, Tells, Delivers, IsWritable, Produces, text_in};
+ghost use Rattle.ef_front.specs.Runs.{EndsWith};
+ghost use Rattle.ef_front.specs.Parts.{Tells, Delivers, Produces};
+ghost use Rattle.ef_front.specs.Compiled.{IsWritable, text_in};
 
 use crate::compiling::{Lowered, as_text};
 use crate::writing::write_module;

@@ -3,7 +3,10 @@ ghost use Rattle.std.specs.Prelude.{◌≡◌, ◌≢◌, ◌⊎◌, true, false
 ghost use Rattle.ef_io.specs.Sink.{Stays};
 ghost use Rattle.ef_front.specs.Words.{job_of};
 ghost use Rattle.ef_front.specs.Lines.{image};
-ghost use Rattle.ef_front.specs.Runs.{Prints, Creates, Counts, Refuses, Reports, IsIdle};
+ghost use Rattle.ef_front.specs.Runs.{Prints, Counts, IsIdle};
+ghost use Rattle.ef_front.specs.Created.{Creates};
+ghost use Rattle.ef_front.specs.Parts.{Refuses, Reports};
+ghost use Rattle.ef_front.specs.Printed.{IsLaidOut};
 ghost use Rattle.ef_front.specs.Headline.{AllWorked, HaveOneList, ShowsFaults};
 
 use crate::compiling::{Compiled, Stop, compile};
@@ -45,6 +48,9 @@ pub fn erlfront<S: Sources, O: Output, G: Sink>(
     ensures headline { AllWorked (S.seen sources.old) (S.seen sources.new) (O.seen output.old) (O.seen output.new) (G.seen diag.old) (G.seen diag.new) result
         → ShowsFaults (job_of (map string_bytes words.now)) (S.seen sources.old).files result (O.seen output.old) (O.seen output.new) (G.seen diag.old) (G.seen diag.new) }
 
+    // The text that is written stands in the one layout.
+    ensures laid_out { IsLaidOut result (O.seen output.new) }
+
     // The faults of an input are one list, so what is printed is settled by the files.
     ensures one_list { HaveOneList }
 {
@@ -63,6 +69,7 @@ fn start<S: Sources, O: Output, G: Sink>(
     ensures prints { Prints result (job_of (map string_bytes words.now)) (S.seen sources.old).files (S.seen sources.new).failed (G.seen diag.old) (G.seen diag.new) }
     ensures creates { Creates result (job_of (map string_bytes words.now)) (S.seen sources.old).files (O.seen output.old) (O.seen output.new) }
     ensures counts { Counts result (S.seen sources.old) (S.seen sources.new) (O.seen output.old).faults (O.seen output.new).faults (G.seen diag.old).faults (G.seen diag.new).faults }
+    ensures laid_out { IsLaidOut result (O.seen output.new) }
     ensures told { (S.seen sources.new).files ≡ (S.seen sources.old).files }
     ensures stays { Stays (G.seen diag.old) (G.seen diag.new) }
     ensures idle { job_of (map string_bytes words.now) ≡ None → IsIdle (S.seen sources.old) (S.seen sources.new) (O.seen output.old) (O.seen output.new) (G.seen diag.old) (G.seen diag.new) result }
@@ -90,7 +97,7 @@ fn report<G: Sink>(alloc: Global, job: &Job, faults: &FaultList, diag: &mut G) -
     ensures reports { Reports (image job.now.path faults.now) (G.seen diag.old) (G.seen diag.new) result }
     ensures stays { Stays (G.seen diag.old) (G.seen diag.new) }
 {
-    let Ok(text) = lines(alloc, job.path.as_slice(), faults.faults()) else {
+    let Ok(text) = lines(alloc, job.path.as_slice(), faults) else {
         return give_up(diag);
     };
     match tell(diag, &text) {
@@ -113,6 +120,7 @@ fn run<S: Sources, O: Output, G: Sink>(
     ensures prints { Prints result (Some job.now) (S.seen sources.old).files (S.seen sources.new).failed (G.seen diag.old) (G.seen diag.new) }
     ensures creates { Creates result (Some job.now) (S.seen sources.old).files (O.seen output.old) (O.seen output.new) }
     ensures counts { Counts result (S.seen sources.old) (S.seen sources.new) (O.seen output.old).faults (O.seen output.new).faults (G.seen diag.old).faults (G.seen diag.new).faults }
+    ensures laid_out { IsLaidOut result (O.seen output.new) }
     ensures told { (S.seen sources.new).files ≡ (S.seen sources.old).files }
     ensures stays { Stays (G.seen diag.old) (G.seen diag.new) }
 {

@@ -1,5 +1,5 @@
 use Rattle.std.proofs.Common.{subst, arith}
-use Rattle.ef_front.specs.Runs.{IsCompiled, IsCompiledText}
+use Rattle.ef_front.specs.Compiled.{IsCompiled, IsCompiledText}
 use Rattle.ef_front.proofs.Found.{compiled_file, large_file}
 use Rattle.ef_front.proofs.compiling.compile.Goals as goal
 

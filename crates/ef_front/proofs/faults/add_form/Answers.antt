@@ -8,5 +8,5 @@ use Rattle.ef_front.proofs.faults.add_form.Goals as goal
 
 pub returns : goal.returns
 returns c = λ all later before is.
-    added before c.in_ok-faults.faults (function_faults all (plain_function c.in-FunctionOf.function)) c.add_all.new.found (c.in_ok-faults.ensures all later) (c.in_ok-add_all.ensures before is)
+    added before c.in_ok-faults.faults (function_faults all (plain_function c.in-FunctionOf.function)) c.append.new.self (c.in_ok-faults.ensures all later) (c.in_ok-append.ensures before is)
     ∙ ap (λ f. set_of (before ++ form_faults all (plain_form f))) (sym c.in-FunctionOf.is)

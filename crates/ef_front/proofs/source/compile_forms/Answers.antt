@@ -1,8 +1,8 @@
-use Rattle.std.proofs.Common.{subst, sym, IfOk}
+use Rattle.std.proofs.Common.{subst, IfOk}
 use Rattle.ef_forms.specs.Plain.{plain_module}
 use Rattle.ef_base.specs.Laws.{extends_same}
 use Rattle.ef_module.specs.Read.{lists, ReadsModule}
-use Rattle.ef_front.specs.Compiles.{IsCompiledModule, IsCompiledForms}
+use Rattle.ef_front.specs.Compiles.{IsCompiledForms}
 use Rattle.ef_front.proofs.Chain.{forms_compiled, if_ok, module_narrow, module_whole}
 use Rattle.ef_front.proofs.source.compile_forms.Goals as goal
 

@@ -14,12 +14,12 @@ lower-requires-clause-built c = λ all later. (c.in_ok-is_built.ensures all late
 
 pub lower-requires-clause-no_fault : goal.lower-requires-clause-no_fault
 lower-requires-clause-no_fault c =
-    let none = sym c.faults-2.ensures.same ∙ empty_list c.faults-2.result.now c.is_empty.result c.is_empty.ensures c.if-not-is_empty.false in
+    let none = empty_list c.in_ok-faults.faults c.is_empty.result c.is_empty.ensures c.if-not-is_empty.false in
     λ all later. no_faults all (plain_module c.args.«module».now) c.in_ok-faults.faults (c.in_ok-faults.ensures all later) none
 
 pub returns : goal.returns
 returns c =
-    let none = sym c.faults-2.ensures.same ∙ empty_list c.faults-2.result.now c.is_empty.result c.is_empty.ensures c.if-not-is_empty.false in
+    let none = empty_list c.in_ok-faults.faults c.is_empty.result c.is_empty.ensures c.if-not-is_empty.false in
     let here = extends_same c.args.names in
     let later = extends_same c.lower.new.names in (
       record {
@@ -29,7 +29,10 @@ returns c =
       record {
         extends = c.in_ok-module.ensures.kept;
         utf8 = c.in_ok-module.ensures.utf8;
+        differ = c.in_ok-module.ensures.differ;
         outline = c.in_ok-module.ensures.outlined c.lower.new.names later;
+        let_form = c.in_ok-module.ensures.let_form;
+        shallow = c.in_ok-module.ensures.shallow;
         readable = c.in_ok-module.ensures.readable c.lower.new.names later;
         means = c.in_ok-module.ensures.means c.lower.new.names later;
         writable = (c.in_ok-module.ensures.of_table c.lower.new.names later, c.in_ok-buffer.ensures.items);

@@ -15,13 +15,13 @@ pub returns-then-not-is_empty : goal.returns-then-not-is_empty
 returns-then-not-is_empty c =
     faulty_compiled c.scan.new.names c.args.source.now c.in_ok-scanned.scanned.items c.in_ok-taken.taken.faults (lists c.in_ok-taken.taken.forms.items)
     (c.in_ok-scanned.ensures.forms c.scan.new.names (extends_same c.scan.new.names)) c.in_ok-taken.ensures
-    (λ none. some_list c.faults.result.now c.is_empty-2.result c.is_empty-2.ensures c.if-not-is_empty.true (c.faults.ensures.same ∙ none))
+    (λ none. some_list c.in_ok-taken.taken.faults c.is_empty-2.result c.is_empty-2.ensures c.if-not-is_empty.true none)
 
 pub compile_forms-requires-clause-ends : goal.compile_forms-requires-clause-ends
 compile_forms-requires-clause-ends c =
     let is = whole c.scan.new.names c.args.source.now c.in_ok-scanned.scanned.items c.in_ok-taken.taken.faults (lists c.in_ok-taken.taken.forms.items)
     (c.in_ok-scanned.ensures.forms c.scan.new.names (extends_same c.scan.new.names)) c.in_ok-taken.ensures
-    (sym c.faults.ensures.same ∙ empty_list c.faults.result.now c.is_empty-2.result c.is_empty-2.ensures c.if-not-is_empty.false)
+    (empty_list c.in_ok-taken.taken.faults c.is_empty-2.result c.is_empty-2.ensures c.if-not-is_empty.false)
     (some_list c.in_ok-scanned.scanned.items c.is_empty.result (c.is_empty.ensures ∙ ap (λ n. n == 0) c.in_ok-scanned.scanned.ok.0) c.if-is_empty.false) in
     scanned_ends c.scan.new.names c.args.source.now (lists c.in_ok-taken.taken.forms.items) is.scans
 
@@ -29,7 +29,7 @@ pub compile_forms-requires-clause-named : goal.compile_forms-requires-clause-nam
 compile_forms-requires-clause-named c =
     let is = whole c.scan.new.names c.args.source.now c.in_ok-scanned.scanned.items c.in_ok-taken.taken.faults (lists c.in_ok-taken.taken.forms.items)
     (c.in_ok-scanned.ensures.forms c.scan.new.names (extends_same c.scan.new.names)) c.in_ok-taken.ensures
-    (sym c.faults.ensures.same ∙ empty_list c.faults.result.now c.is_empty-2.result c.is_empty-2.ensures c.if-not-is_empty.false)
+    (empty_list c.in_ok-taken.taken.faults c.is_empty-2.result c.is_empty-2.ensures c.if-not-is_empty.false)
     (some_list c.in_ok-scanned.scanned.items c.is_empty.result (c.is_empty.ensures ∙ ap (λ n. n == 0) c.in_ok-scanned.scanned.ok.0) c.if-is_empty.false) in
     scanned_named c.scan.new.names c.args.source.now (lists c.in_ok-taken.taken.forms.items) is.scans
 
@@ -37,7 +37,7 @@ pub compile_forms-requires-clause-light : goal.compile_forms-requires-clause-lig
 compile_forms-requires-clause-light c =
     let is = whole c.scan.new.names c.args.source.now c.in_ok-scanned.scanned.items c.in_ok-taken.taken.faults (lists c.in_ok-taken.taken.forms.items)
     (c.in_ok-scanned.ensures.forms c.scan.new.names (extends_same c.scan.new.names)) c.in_ok-taken.ensures
-    (sym c.faults.ensures.same ∙ empty_list c.faults.result.now c.is_empty-2.result c.is_empty-2.ensures c.if-not-is_empty.false)
+    (empty_list c.in_ok-taken.taken.faults c.is_empty-2.result c.is_empty-2.ensures c.if-not-is_empty.false)
     (some_list c.in_ok-scanned.scanned.items c.is_empty.result (c.is_empty.ensures ∙ ap (λ n. n == 0) c.in_ok-scanned.scanned.ok.0) c.if-is_empty.false) in
     spell_light c.scan.new.names c.args.source.now (lists c.in_ok-taken.taken.forms.items) c.requires is.scans
 
@@ -45,7 +45,7 @@ pub returns : goal.returns
 returns c =
     let is = whole c.scan.new.names c.args.source.now c.in_ok-scanned.scanned.items c.in_ok-taken.taken.faults (lists c.in_ok-taken.taken.forms.items)
     (c.in_ok-scanned.ensures.forms c.scan.new.names (extends_same c.scan.new.names)) c.in_ok-taken.ensures
-    (sym c.faults.ensures.same ∙ empty_list c.faults.result.now c.is_empty-2.result c.is_empty-2.ensures c.if-not-is_empty.false)
+    (empty_list c.in_ok-taken.taken.faults c.is_empty-2.result c.is_empty-2.ensures c.if-not-is_empty.false)
     (some_list c.in_ok-scanned.scanned.items c.is_empty.result (c.is_empty.ensures ∙ ap (λ n. n == 0) c.in_ok-scanned.scanned.ok.0) c.if-is_empty.false) in
     let differ = c.in_ok-scanned.ensures.differ (none_differ c.new-names.result c.new-names.ensures) in
     if_ok c.compile_forms.result _ _

@@ -1,6 +1,6 @@
 use Rattle.ef_core.specs.Layout.{text_of}
 use Rattle.ef_core.specs.Plain.{plain_module}
-use Rattle.ef_front.proofs.Created.{holds_none, produces}
+use Rattle.ef_front.proofs.Created.{produces}
 use Rattle.ef_front.proofs.telling.produce.Goals as goal
 
 pub returns : goal.returns

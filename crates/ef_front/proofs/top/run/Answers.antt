@@ -1,7 +1,6 @@
-use Rattle.ef_front.specs.Runs.{IsCompiled, text_in}
-use Rattle.ef_front.specs.declared.compiling.Compiled.TheVariants.{Module}
-use Rattle.ef_front.proofs.Created.{creates_delivered, prints_delivered}
-use Rattle.ef_front.proofs.Told.{prints_faults}
+use Rattle.ef_front.specs.Compiled.{text_in}
+use Rattle.ef_front.proofs.Created.{creates_delivered, laid_delivered, laid_otherwise, prints_delivered}
+use Rattle.ef_front.proofs.Told.{prints_faults, reports_unwritten}
 use Rattle.ef_front.proofs.top.run.Goals as goal
 
 pub returns-in-Ok-Module-clause-prints : goal.returns-in-Ok-Module-clause-prints
@@ -14,6 +13,16 @@ returns-in-Ok-Module-clause-creates g c =
     let compiled = rw c.in-Ok-Module.field-0-is at c.in-Ok-Module.ensures.compiled in
     creates_delivered c.args.job.now (g.S.Sources.seen c.args.sources.now).files (text_in c.in-Ok-Module.lowered)
     (g.O.Sink.seen c.args.output.now) (g.O.Sink.seen c.deliver.new.output) (g.G.Sink.seen c.args.diag.now) (g.G.Sink.seen c.deliver.new.diag) c.deliver.result compiled.0 c.deliver.ensures.delivers
+
+pub returns-in-Ok-Module-clause-laid_out : goal.returns-in-Ok-Module-clause-laid_out
+returns-in-Ok-Module-clause-laid_out g c =
+    let compiled = rw c.in-Ok-Module.field-0-is at c.in-Ok-Module.ensures.compiled in
+    laid_delivered c.args.job.now.out (text_in c.in-Ok-Module.lowered)
+    (g.O.Sink.seen c.args.output.now) (g.O.Sink.seen c.deliver.new.output) (g.G.Sink.seen c.args.diag.now) (g.G.Sink.seen c.deliver.new.diag) c.deliver.result compiled.1 c.deliver.ensures.delivers
+
+pub returns-in-Ok-Faulty-clause-laid_out : goal.returns-in-Ok-Faulty-clause-laid_out
+returns-in-Ok-Faulty-clause-laid_out g c =
+    laid_otherwise c.report.result (g.O.Sink.seen c.args.output.now) (reports_unwritten _ _ _ c.report.result c.report.ensures.reports)
 
 pub returns-in-Ok-Faulty-clause-prints : goal.returns-in-Ok-Faulty-clause-prints
 returns-in-Ok-Faulty-clause-prints g c =

@@ -1,0 +1,5 @@
+mod Sets
+mod Choice
+mod Steps
+mod Tops
+mod Runs

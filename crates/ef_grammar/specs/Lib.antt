@@ -1,0 +1,5 @@
+pub mod Grammar
+pub mod Table
+pub mod Shown
+pub mod Answers
+pub mod Reads

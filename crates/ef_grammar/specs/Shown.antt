@@ -1,0 +1,24 @@
+-- What the code's rows stand for.
+use Rattle.std.specs.Prelude.{Bool, true, false, List, map, reverse, Option, Some, None}
+use Rattle.ef_grammar.specs.Grammar as g
+use Rattle.ef_grammar.specs.Table as t
+use Rattle.ef_grammar.specs.declared.row.Symbol as rs
+use Rattle.ef_grammar.specs.declared.row.Symbol.TheVariants as symbol_is
+use Rattle.ef_grammar.specs.declared.row.Row as rr
+
+abbrev pub symbol : {R A : Type 0} → rs.Symbol R A → g.Symbol R A
+symbol (symbol_is.Token s) = g.Token s
+symbol (symbol_is.Rule n) = g.Rule n
+symbol (symbol_is.Act a) = g.Act a
+
+abbrev pub row : {R A : Type 0} → rr.Row R A → t.Row R A
+row r = record { at = r.at; right = map symbol r.right.now }
+
+-- the next one first
+abbrev pub symbols : {R A : Type 0} → List (rs.Symbol R A) → List (g.Symbol R A)
+symbols ss = reverse (map symbol ss)
+
+-- what an action gave: whether it took what was read, and the value then
+abbrev pub acted : {V : Type 0} → Bool → V → Option V
+acted true v = Some v
+acted false v = None

@@ -1,0 +1,15 @@
+// Rows of a grammar, as constants of the program.
+
+/// A part of a right side. A token is given by the set of its classes: the bit of each class is set.
+#[derive(Clone, Copy)]
+pub enum Symbol<R, A> {
+    Token(u64),
+    Rule(R),
+    Act(A),
+}
+
+/// A right side of a rule, and the set of the classes of tokens at which it is chosen.
+pub struct Row<R: 'static, A: 'static> {
+    pub at: u64,
+    pub right: &'static [Symbol<R, A>],
+}

@@ -1,3 +1,4 @@
+pub mod Budgets
 pub mod Nodes
 pub mod Matching
 pub mod Lowers

@@ -7,10 +7,10 @@ ghost use Rattle.ef_core.specs.Depth.{depth};
 ghost use Rattle.ef_core.specs.Everywhere.{Each};
 ghost use Rattle.ef_core.specs.Fresh.{DrawsAtMost, most_variables};
 ghost use Rattle.ef_core.specs.Lowered.{IsLowered, IsReadableTest};
-ghost use Rattle.ef_core.specs.Plain.{plain, plain_all, plain_step};
+ghost use Rattle.ef_core.specs.Plain.{plain, plain_all, plain_step, plain_steps};
 ghost use Rattle.ef_core.specs.Scope.{InScope};
 ghost use Rattle.ef_core.specs.Tree as c;
-ghost use Rattle.ef_lowpat.specs.Guards.{HasTested, HoldsWord, HoldsWords, IsComparison, IsYes, behind_sides, guard_words};
+ghost use Rattle.ef_lowpat.specs.Guards.{HasTested, HoldsWord, HoldsWords, IsComparison, IsYes, behind_sides, guard_words, lefts, rights};
 ghost use Rattle.ef_meaning.specs.Patterns.{IsGuard, TestsBelow};
 
 use crate::draws::draw;
@@ -87,11 +87,32 @@ fn with_sides(
 ) -> Result<CoreExpr, NoMemory>
     ensures { IfOk result (λ e. plain e ≡ behind_sides tests.now left right (plain body)) }
 {
-    let lefts = step(alloc, left, left_sides(alloc, tests)?)?;
-    let rights = step(alloc, right, right_sides(alloc, tests)?)?;
-    let steps = vec![in alloc; lefts, rights]?;
-    let body = Box::new(alloc, body)?;
-    Ok(CoreExpr::Lets { steps, body })
+    match sides(alloc, tests, left, right) {
+        Ok(steps) => {
+            let body = Box::new(alloc, body)?;
+            Ok(CoreExpr::Lets { steps, body })
+        }
+        Err(error) => {
+            // By a call: dropped in place, each variant of each part would be a step of its own in the proof.
+            drop(body);
+            Err(error)
+        }
+    }
+}
+
+// The tuples of both sides.
+fn sides(
+    alloc: Global,
+    tests: &[Test],
+    left: CoreVar,
+    right: CoreVar,
+) -> Result<Vec<LetStep>, NoMemory>
+    ensures { IfOk result (λ ss. plain_steps ss.items ≡ c.step (left ∷ []) (c.tuple (lefts tests.now)) (c.step (right ∷ []) (c.tuple (rights tests.now)) c.done)) }
+{
+    let mut steps = Vec::with_capacity(alloc, 2)?;
+    steps.push(step(alloc, left, left_sides(alloc, tests)?)?)?;
+    steps.push(step(alloc, right, right_sides(alloc, tests)?)?)?;
+    Ok(steps)
 }
 
 fn left_sides(alloc: Global, tests: &[Test]) -> Result<Vec<CoreExpr>, NoMemory>

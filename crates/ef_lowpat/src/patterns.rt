@@ -16,6 +16,7 @@ ghost use Rattle.ef_forms.specs.OfTable.{TreesOf};
 ghost use Rattle.ef_forms.specs.Plain.{plain, plain_all};
 ghost use Rattle.ef_forms.specs.Ways.{all_names};
 ghost use Rattle.ef_forms.specs.Weight.{all_weight, weight};
+ghost use Rattle.ef_lowpat.specs.Budgets.{variables_per_pattern};
 ghost use Rattle.ef_lowpat.specs.Lowers.{IsVariableOf, LowersItems, LowersPattern, Notes};
 ghost use Rattle.ef_meaning.specs.Lowers.{AreBelow};
 ghost use Rattle.ef_meaning.specs.Named.{bound_names};
@@ -41,7 +42,7 @@ pub fn pattern(
     requires of_table { TreesOf names.now (plain_all pats.now) }
     requires readable { Each (IsReadableBind names.now) bound.now }
     requires below { AreBelow fresh.old bound.now }
-    requires enough { fresh.old + 50 * all_weight (plain_all pats.now) ≤ most_variables }
+    requires enough { fresh.old + variables_per_pattern * all_weight (plain_all pats.now) ≤ most_variables }
     ensures matched { IfOk result (λ l. KeepsPatterns names.now (plain_all pats.now) fresh.old bound.now (plain_pats l.pats.items) l.tests.items fresh.new l.binds.items) }
     ensures count { IfOk result (λ l. length l.pats.items ≡ length pats.now) }
     //
@@ -60,7 +61,7 @@ pub fn pattern(
     ensures readable_binds { IfOk result (λ l. Each (IsReadableBind names.now) l.binds.items) }
     ensures readable_tests { IfOk result (λ l. Each (IsReadableTest names.now) l.tests.items) }
     ensures shallow { IfOk result (λ l. pats_depth (plain_pats l.pats.items) ≤ all_depth (plain_all pats.now)) }
-    ensures drawn { IfOk result (λ l. DrawsAtMost (50 * all_weight (plain_all pats.now)) fresh.old fresh.new) }
+    ensures drawn { IfOk result (λ l. DrawsAtMost (variables_per_pattern * all_weight (plain_all pats.now)) fresh.old fresh.new) }
 {
     let mut found = Found {
         tests: Vec::new(alloc),

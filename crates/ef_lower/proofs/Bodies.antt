@@ -19,6 +19,7 @@ use Rattle.ef_forms.specs.Sure.{all_sure, sure}
 use Rattle.ef_forms.specs.Tree.{Tree}
 use Rattle.ef_forms.specs.Ways.{NameSet}
 use Rattle.ef_forms.specs.Weight.{all_weight}
+use Rattle.ef_lowpat.specs.Budgets.{depth_per_level, variables_per_unit}
 use Rattle.ef_meaning.specs.Cases.{AreHeld, names_of, together}
 use Rattle.ef_meaning.specs.Lowers.{AreBelow, KeepsBody, KeepsLast, finished}
 use Rattle.ef_meaning.proofs.Bodies.{finished_keeps, last_keeps}
@@ -53,7 +54,7 @@ exported env0 env1 set b differ =
 pub record IsLoweredBody (texts : Texts) (defined : List FunctionName) (es : List Tree) (env : List Bind) (names : List Name) (e : CoreTree) : Type 0 where
   pub lowered : IsLowered texts e
   pub in_scope : IsInScope texts defined env e
-  pub shallow : depth e + 1 ≤ 16 * all_depth (trees es)
+  pub shallow : depth e + 1 ≤ depth_per_level * all_depth (trees es)
   pub means : KeepsBody texts es env names e
 
 pub finishes : (ss : List StepTree) (v e : CoreTree) → Finishes ss v e → e ≡ finished ss v
@@ -101,10 +102,10 @@ module _ (texts : Texts) (defined : List FunctionName) {es : List Tree} {n0 n1 :
       adds_both (λ s r p q. (value_behind texts defined p.forms q.form, last_keeps texts b.front b.last n0 env0 s b.n1 b.env1 b.values r n1 env1 v p.keeps q.keeps)) b.first_lowered b.last_lowered in
       subst (λ z. Parts z ss) b.whole (adds_all none whole)
 
-  pub body_drawn : DrawsAtMost (500 * all_weight (trees es)) n0 n1
+  pub body_drawn : DrawsAtMost (variables_per_unit * all_weight (trees es)) n0 n1
   body_drawn = let enough = body_parts.0.enough in (body_parts.0.drawn, omega arith)
 
-  pub body_enough : n1 + 1 ≤ n0 + 500 * all_weight (trees es)
+  pub body_enough : n1 + 1 ≤ n0 + variables_per_unit * all_weight (trees es)
   body_enough = body_parts.0.enough
 
   -- its value alone
@@ -134,7 +135,7 @@ module _ (texts : Texts) (defined : List FunctionName) {es : List Tree} {n0 n1 :
       let forms = parts.0 in
       let levels = all_depth (trees es) in
       let first = last_argument (IsArgument texts levels) b.values x forms.arguments in
-      let some : 1 ≤ levels = let shallow : depth v + 2 ≤ 16 * levels = body_parts.0.shallow in omega arith in
+      let some : 1 ≤ levels = let shallow : depth v + 2 ≤ depth_per_level * levels = body_parts.0.shallow in omega arith in
       let values : Each (IsArgument texts levels) (x ∷ held_variables binds) = (first, variables_arguments texts levels binds some (held_each (readable texts).variable env1 binds forms.names.readable are)) in
       let scope : AreInScope texts defined env0 new env1 (together (x ∷ held_variables binds) ∷ []) = λ xs fs variables functions.
       let all = forms.in_scope xs fs variables functions in
@@ -175,5 +176,5 @@ module _ (texts : Texts) (defined : List FunctionName) {es : List Tree} {n0 n1 :
     pub named_exported : IsExported env0 (all_sure (trees es)) names
     named_exported = subst (IsExported env0 (all_sure (trees es))) (sym (named ∙ ap names_of their_names)) (exported env0 env1 (all_sure (trees es)) body_names differ)
 
-    pub named_drawn : DrawsAtMost (500 * all_weight (trees es)) n0 k
+    pub named_drawn : DrawsAtMost (variables_per_unit * all_weight (trees es)) n0 k
     named_drawn = let next = next_number (drop start env1) g in let least = next.0 in let most = next.1 in let enough = body_enough in let drawn = body_parts.0.drawn in (omega arith, omega arith)

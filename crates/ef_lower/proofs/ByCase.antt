@@ -64,7 +64,7 @@ module _ (texts : Texts) (defined : List FunctionName) (q : Place) (e : Tree) (c
 
   -- ---- the case, with the last clause written out
 
-  abbrev last : IsLastClause texts (codes "case_clause") n first makes.last
+  abbrev last : IsLastClause texts (codes "case_clause") 1 n first makes.last
   last = makes.is_last
 
   abbrev end_clause : core.ClauseTree
@@ -90,7 +90,7 @@ module _ (texts : Texts) (defined : List FunctionName) (q : Place) (e : Tree) (c
   are_lowered = arms_lowered texts defined n env1 (shared arms) cs arms makes.made are makes.finished inner (omega arith) some_inner
 
   end_lowered : IsLoweredClause texts defined env1 inner end_clause
-  end_lowered = subst (IsLoweredClause texts defined env1 inner) last.is (last_lowered texts defined env1 inner some_inner (codes "case_clause") n first makes.last last makes.in_range)
+  end_lowered = subst (IsLoweredClause texts defined env1 inner) last.is (last_lowered texts defined env1 inner some_inner (codes "case_clause") 1 n first makes.last last makes.in_range)
 
   whole_lowered : IsLowered texts the_case
   whole_lowered = case_lowered texts defined env1 inner x makes.made end_clause are_lowered end_lowered one.forms.arguments.0.lowered

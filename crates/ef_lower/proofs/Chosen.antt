@@ -13,7 +13,7 @@ use Rattle.ef_lower.specs.Matches.{IsLastClause}
 
 module _ {texts : Texts} {x : CoreTree} {arms : List ArmTree} {n first : ℕ} {whole : CoreTree} where
   -- the last clause goes behind those of the arms
-  pub chosen : (last : CoreClause) (cs all : List CoreClause) → IsLastClause texts (codes "case_clause") n first (plain_clause last) → first ≤ most_variables → FinishesAll (shared arms) arms (map plain_clause cs) → all ≡ cs ++ last ∷ [] → whole ≡ c.case_of x (plain_clauses all) →
+  pub chosen : (last : CoreClause) (cs all : List CoreClause) → IsLastClause texts (codes "case_clause") 1 n first (plain_clause last) → first ≤ most_variables → FinishesAll (shared arms) arms (map plain_clause cs) → all ≡ cs ++ last ∷ [] → whole ≡ c.case_of x (plain_clauses all) →
       IsCaseOf texts x arms n first whole
   chosen last cs all is_last in_range finished pushed is = record {
     last = plain_clause last;

@@ -17,8 +17,9 @@ use Rattle.ef_core.specs.WellFormed.{AreSomeClauses}
 use Rattle.ef_forms.specs.declared.tables.FunctionName.{FunctionName}
 use Rattle.ef_lower.specs.Scope.{HasFunctions, HasVariables}
 use Rattle.ef_lower.proofs.Forms.{each_both}
+use Rattle.ef_lowpat.specs.Budgets.{depth_per_level}
 
--- a clause that stands behind an environment, at most 16 deep for each level of the source
+-- a clause that stands behind an environment, no deeper than the levels of the source allow
 pub record IsLoweredClause (texts : Texts) (defined : List FunctionName) (env : List Bind) (levels : ℕ) (made : ClauseTree) : Type 0 where
   pub distinct : NoneTwice (pats_vars made.pats)
   pub pats : PatsHold (lowered texts) made.pats
@@ -26,7 +27,7 @@ pub record IsLoweredClause (texts : Texts) (defined : List FunctionName) (env : 
   pub body : IsLowered texts made.body
   pub in_scope : (vs : List CoreVar) (fs : List FName) → HasVariables env vs → HasFunctions texts defined fs
       → SizesInScope vs fs made.pats × InScope (pats_vars made.pats ++ vs) fs made.guard × InScope (pats_vars made.pats ++ vs) fs made.body
-  pub shallow : max (pats_depth made.pats) (max (depth made.guard) (depth made.body)) + 1 ≤ 16 * levels
+  pub shallow : max (pats_depth made.pats) (max (depth made.guard) (depth made.body)) + 1 ≤ depth_per_level * levels
 
 module _ (texts : Texts) (defined : List FunctionName) (env : List Bind) (levels : ℕ) where
   clauses_hold : (ms : List ClauseTree) → Each (IsLoweredClause texts defined env levels) ms → ClausesHold (lowered texts) (clauses ms)
@@ -42,7 +43,7 @@ module _ (texts : Texts) (defined : List FunctionName) (env : List Bind) (levels
   clauses_in_scope vs fs (m ∷ ms) variables functions all =
       let one = all.0.in_scope vs fs variables functions in (one.0, one.1, one.2, clauses_in_scope vs fs ms variables functions all.1)
 
-  clauses_shallow : (ms : List ClauseTree) → 1 ≤ levels → Each (IsLoweredClause texts defined env levels) ms → deep.clauses_depth (clauses ms) + 1 ≤ 16 * levels
+  clauses_shallow : (ms : List ClauseTree) → 1 ≤ levels → Each (IsLoweredClause texts defined env levels) ms → deep.clauses_depth (clauses ms) + 1 ≤ depth_per_level * levels
   clauses_shallow [] some all = omega arith
   clauses_shallow (m ∷ ms) some all = let here = all.0.shallow in let rest = clauses_shallow ms some all.1 in omega arith
 
@@ -66,5 +67,5 @@ module _ (texts : Texts) (defined : List FunctionName) (env : List Bind) (levels
     pub case_in_scope : (vs : List CoreVar) (fs : List FName) → HasVariables env vs → HasFunctions texts defined fs → InScope vs fs x → InScope vs fs (c.case_of x (clauses (ms ++ last ∷ [])))
     case_in_scope vs fs variables functions argument = (argument, clauses_in_scope vs fs (ms ++ last ∷ []) variables functions every)
 
-    pub case_shallow : 1 ≤ levels → depth x ≤ 16 * levels → depth (c.case_of x (clauses (ms ++ last ∷ []))) ≤ 1 + 16 * levels
+    pub case_shallow : 1 ≤ levels → depth x ≤ depth_per_level * levels → depth (c.case_of x (clauses (ms ++ last ∷ []))) ≤ 1 + depth_per_level * levels
     case_shallow some argument = let all = clauses_shallow (ms ++ last ∷ []) some every in omega arith

@@ -27,6 +27,7 @@ use Rattle.ef_forms.specs.Sure.{all_sure, sure}
 use Rattle.ef_forms.specs.Tree.{Tree}
 use Rattle.ef_forms.specs.Ways.{NameSet}
 use Rattle.ef_forms.specs.Weight.{all_weight, weight}
+use Rattle.ef_lowpat.specs.Budgets.{depth_per_level}
 use Rattle.ef_meaning.proofs.Parts.{one_step}
 use Rattle.ef_lower.specs.Lowers.{ArgumentForms, Binds, Finishes, IsArgument, IsLowered, IsLoweredStep, IsShallow, ValueForm, lowered}
 use Rattle.ef_lower.specs.Ready.{IsReadableBind, bound_names}
@@ -88,7 +89,7 @@ module _ (texts : Texts) (levels : ℕ) where
 pub steps_wider : (texts : Texts) (few many : ℕ) (ss : List StepTree) → few ≤ many → Each (IsLoweredStep texts few) ss → Each (IsLoweredStep texts many) ss
 steps_wider texts few many [] le all = tt
 steps_wider texts few many (s ∷ ss) le all =
-    let one : depth s.value + 2 ≤ 16 * few = all.0.shallow in (
+    let one : depth s.value + 2 ≤ depth_per_level * few = all.0.shallow in (
       record { variables = all.0.variables; differ = all.0.differ; value = all.0.value; shallow = omega arith },
       steps_wider texts few many ss le all.1,
     )
@@ -171,7 +172,7 @@ module _ (texts : Texts) (defined : List FunctionName) where
           steps = each_both (IsLoweredStep texts levels) a b (steps_wider texts (all_depth (trees es)) levels a first one.steps) (steps_wider texts (all_depth (trees ds)) levels b second two.steps);
           lowered = two.lowered;
           no_run = two.no_run;
-          shallow = let deep : depth v + 2 ≤ 16 * all_depth (trees ds) = two.shallow in omega arith;
+          shallow = let deep : depth v + 2 ≤ depth_per_level * all_depth (trees ds) = two.shallow in omega arith;
           argument = λ simple. let deep = two.argument simple in omega arith;
           in_scope = let all = both_in_scope texts defined env0 env1 env2 a b [] (v ∷ []) tt (λ xs fs variables functions. let before = one.in_scope xs fs variables functions in (before.0, before.1, tt)) two.in_scope in all;
         }
@@ -193,7 +194,7 @@ module _ (texts : Texts) (defined : List FunctionName) where
     pub put_form : (e : Tree) → ValueForm texts defined (e ∷ []) n env0 a m env1 v → m < most_variables → ArgumentForms texts defined (e ∷ []) n env0 (a ++ one_step (Numbered m) v) (m + 1) env1 (c.var (Numbered m) ∷ [])
     put_form e one small =
         let levels = all_depth (trees (e ∷ [])) in
-        let deep : depth v + 2 ≤ 16 * levels = one.shallow in
+        let deep : depth v + 2 ≤ depth_per_level * levels = one.shallow in
         let is = numbered_readable texts m small in
         let last : IsLoweredStep texts levels (record { vars = Numbered m ∷ []; value = v }) = record { variables = ((tt, (is, tt)), tt); differ = ((λ none. none), tt); value = one.lowered; shallow = deep } in
         record {
@@ -246,7 +247,7 @@ module _ (texts : Texts) (defined : List FunctionName) where
     steps = steps_wider texts (all_depth (trees (e ∷ []))) (all_depth (trees (d ∷ []))) a (omega arith) one.steps;
     lowered = one.lowered;
     no_run = one.no_run;
-    shallow = let deep : depth v + 2 ≤ 16 * all_depth (trees (e ∷ [])) = one.shallow in omega arith;
+    shallow = let deep : depth v + 2 ≤ depth_per_level * all_depth (trees (e ∷ [])) = one.shallow in omega arith;
     argument = λ simple. let deep = one.argument simple in omega arith;
     in_scope = one.in_scope;
   }
@@ -270,11 +271,11 @@ module _ (texts : Texts) where
     lowered,
   )
 
-  steps_shallow : (d : ℕ) (ss : List StepTree) → Each (IsLoweredStep texts d) ss → 1 ≤ d → steps_depth (steps ss) + 2 ≤ 16 * d
+  steps_shallow : (d : ℕ) (ss : List StepTree) → Each (IsLoweredStep texts d) ss → 1 ≤ d → steps_depth (steps ss) + 2 ≤ depth_per_level * d
   steps_shallow d [] all some = omega arith
   steps_shallow d (s ∷ ss) all some =
-      let one : depth s.value + 2 ≤ 16 * d = all.0.shallow in let rest = steps_shallow d ss all.1 some in omega arith
+      let one : depth s.value + 2 ≤ depth_per_level * d = all.0.shallow in let rest = steps_shallow d ss all.1 some in omega arith
 
-  pub run_shallow : (d : ℕ) (ss : List StepTree) (v e : CoreTree) → Each (IsLoweredStep texts d) ss → IsShallow d v → Finishes ss v e → depth e + 1 ≤ 16 * d
+  pub run_shallow : (d : ℕ) (ss : List StepTree) (v e : CoreTree) → Each (IsLoweredStep texts d) ss → IsShallow d v → Finishes ss v e → depth e + 1 ≤ depth_per_level * d
   run_shallow d [] v e all deep is = let same = ap depth is in omega arith
   run_shallow d (s ∷ ss) v e all deep is = let same = ap depth is in let rest = steps_shallow d (s ∷ ss) all (omega arith) in omega arith

@@ -10,6 +10,8 @@ pub mod Few
 pub mod Several
 pub mod Variables
 pub mod Clauses
+pub mod Numbered
+pub mod Listed
 pub mod LastClause
 pub mod Matching
 pub mod Literals

@@ -13,6 +13,7 @@ use Rattle.ef_forms.specs.Depth.{all_depth, clauses_depth}
 use Rattle.ef_forms.specs.Plain.{ClauseTree, clauses, guards, trees}
 use Rattle.ef_forms.specs.Tree as t
 use Rattle.ef_forms.specs.Weight.{clauses_weight}
+use Rattle.ef_lowpat.specs.Budgets.{variables_per_unit}
 use Rattle.ef_meaning.specs.Cases.{names_of}
 use Rattle.ef_meaning.specs.Patterns.{IsGuard, KeepsPatterns, KeepsPicks}
 use Rattle.ef_meaning.proofs.Picks.{picks_clause, picks_none}
@@ -59,7 +60,7 @@ module _ (texts : Texts) (defined : List FunctionName) (n : ℕ) (env : List Bin
   arms_new (c ∷ cs) [] are = absurd are
   arms_new (c ∷ cs) (a ∷ arms) are = (binds_behind env a.binds are.0.differ, arms_new cs arms are.1)
 
-  arms_room : (cs : List ClauseTree) (arms : List ArmTree) → AreArms texts defined n env cs arms → n + 500 * clauses_weight (clauses cs) ≤ most_variables → Each (λ a. a.drawn < most_variables) arms
+  arms_room : (cs : List ClauseTree) (arms : List ArmTree) → AreArms texts defined n env cs arms → n + variables_per_unit * clauses_weight (clauses cs) ≤ most_variables → Each (λ a. a.drawn < most_variables) arms
   arms_room [] [] are enough = tt
   arms_room [] (a ∷ arms) are enough = absurd are
   arms_room (c ∷ cs) [] are enough = absurd are
@@ -71,7 +72,7 @@ module _ (texts : Texts) (defined : List FunctionName) (n : ℕ) (env : List Bin
         few_shared env (shared arms) (clauses cs) (shared_differ arms (arms_differ cs arms are)) (shared_new env arms (arms_new cs arms are))
         (λ y. bound_both env (shared arms) y ∙ shared_named texts defined n env cs arms are some y)
 
-    pub arms_can_end : n + 500 + 500 * clauses_weight (clauses cs) ≤ most_variables → ArmsCanEnd n env arms
+    pub arms_can_end : n + variables_per_unit + variables_per_unit * clauses_weight (clauses cs) ≤ most_variables → ArmsCanEnd n env arms
     arms_can_end enough = record {
       differ = arms_differ cs arms are;
       new = arms_new cs arms are;

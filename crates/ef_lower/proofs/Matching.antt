@@ -50,7 +50,7 @@ module _ (texts : Texts) (defined : List FunctionName) (p e : Tree) (x : CoreVar
   abbrev found : IsPatternsOf texts (more p end) n env1 step.made step.tests step.matched step.binds
   found = step.is_pattern
 
-  abbrev last : IsLastClause texts (codes "badmatch") step.guarded step.first step.last
+  abbrev last : IsLastClause texts (codes "badmatch") 1 step.guarded step.first step.last
   last = step.is_last
 
   abbrev clause : ClauseTree
@@ -97,7 +97,7 @@ module _ (texts : Texts) (defined : List FunctionName) (p e : Tree) (x : CoreVar
   end_lowered : IsLoweredClause texts defined env1 (source_depth p) (last_clause last.always (Numbered last.z ∷ []) last.fails)
   end_lowered =
       subst (IsLoweredClause texts defined env1 (source_depth p)) last.is
-      (last_lowered texts defined env1 (source_depth p) (some_depth p) (codes "badmatch") step.guarded step.first step.last last (let is = fits in omega arith))
+      (last_lowered texts defined env1 (source_depth p) (some_depth p) (codes "badmatch") 1 step.guarded step.first step.last last (let is = fits in omega arith))
 
   pub step_lowered : (levels : ℕ) → source_depth p + 1 ≤ levels → IsLowered texts (c.var x) → IsLoweredStep texts levels made_step
   step_lowered levels deeper is = record {

@@ -14,6 +14,7 @@ use Rattle.ef_forms.specs.Plain.{ClauseTree, clauses, trees}
 use Rattle.ef_forms.specs.Tree.{Tree}
 use Rattle.ef_forms.specs.Ways.{all_names, body_faults, union}
 use Rattle.ef_forms.specs.Weight.{all_weight, clauses_weight}
+use Rattle.ef_lowpat.specs.Budgets.{variables_per_pattern, variables_per_unit}
 use Rattle.ef_meaning.specs.Lowers.{AreBelow}
 use Rattle.ef_meaning.proofs.Variables.{are_below_more}
 use Rattle.ef_lower.specs.Arms.{IsArm, IsFront}
@@ -34,18 +35,18 @@ pub record IsReadyBody (texts : Texts) (defined : List FunctionName) (n : ℕ) (
   pub readable : Each (IsReadableBind texts) env
   pub no_faults : body_faults texts (trees es) (bound_names env ∷ []) ≡ []
   pub below : AreBelow n env
-  pub enough : n + 500 * all_weight (trees es) ≤ most_variables
+  pub enough : n + variables_per_unit * all_weight (trees es) ≤ most_variables
 
 one_weight : (ps : List Tree) → length ps ≡ 1 → 1 ≤ all_weight (trees ps)
 one_weight [] one = absurd (omega arith)
 one_weight (p ∷ ps) one = let some = some_weight p in omega arith
 
 -- there are variables left for the front
-pub front_enough : (texts : Texts) (defined : List FunctionName) (n : ℕ) (env : List Bind) (c : ClauseTree) → IsReadyClause texts defined (bound_names env) c → n + 500 * clauses_weight (clauses (c ∷ [])) ≤ most_variables → n + 50 * all_weight (trees c.patterns) + 2 ≤ most_variables
+pub front_enough : (texts : Texts) (defined : List FunctionName) (n : ℕ) (env : List Bind) (c : ClauseTree) → IsReadyClause texts defined (bound_names env) c → n + variables_per_unit * clauses_weight (clauses (c ∷ [])) ≤ most_variables → n + variables_per_pattern * all_weight (trees c.patterns) + 2 ≤ most_variables
 front_enough texts defined n env c ready enough = let some = one_weight c.patterns ready.one in omega arith
 
 module _ (texts : Texts) (defined : List FunctionName) (n : ℕ) (env : List Bind) (c : ClauseTree) (ready : IsReadyClause texts defined (bound_names env) c) (m : ℕ) (env1 : List Bind) (pats : PatTrees) (guard : CoreTree) (front : IsFront texts c n env m env1 pats guard) where
-  pub ready_body : Each (IsReadableBind texts) env → n + 500 * clauses_weight (clauses (c ∷ [])) ≤ most_variables → IsReadyBody texts defined m env1 c.body
+  pub ready_body : Each (IsReadableBind texts) env → n + variables_per_unit * clauses_weight (clauses (c ∷ [])) ≤ most_variables → IsReadyBody texts defined m env1 c.body
   ready_body readable enough =
       let found = front.parts.is_pattern in
       let binds = front.binds in

@@ -20,6 +20,7 @@ use Rattle.ef_lower.specs.declared.arms.Arm.{Arm}
 use Rattle.ef_lower.specs.Exports.{GivesNames}
 use Rattle.ef_lower.specs.Lowers.{LowersBody}
 use Rattle.ef_lower.specs.Matches.{IsFrontOf, IsGuardOf, IsLastClause, IsPatternsOf}
+use Rattle.ef_lowpat.specs.Budgets.{variables_per_unit}
 use Rattle.ef_meaning.specs.Cases.{AreHeld, names_of}
 use Rattle.ef_meaning.specs.Lowers.{env_from, params_from}
 
@@ -64,7 +65,7 @@ module _ (texts : Texts) (defined : List FunctionName) (n : ℕ) (env : List Bin
     pub guard_drawn : DrawsAtMost 2 matched guarded
     pub is_body : LowersBody texts defined e.body guarded (env ++ binds) [] a.steps a.drawn (env ++ a.binds) a.value
     pub differ : NamesDiffer (env ++ a.binds)
-    pub enough : a.drawn + 1 ≤ n + 500 * (all_weight (source.trees e.patterns) + all_weight (source.trees e.body))
+    pub enough : a.drawn + 1 ≤ n + variables_per_unit * (all_weight (source.trees e.patterns) + all_weight (source.trees e.body))
 
   abbrev pub AreArms : List source.ClauseTree → List ArmTree → Type 0
   AreArms [] [] = Unit {0}
@@ -119,7 +120,7 @@ pub record ArmsCanEnd (n : ℕ) (env : List Bind) (arms : List ArmTree) : Type 0
 pub record IsCaseOf (texts : Texts) (x : CoreTree) (arms : List ArmTree) (n m : ℕ) (e : CoreTree) : Type 0 where
   pub last : ClauseTree
   pub made : List ClauseTree
-  pub is_last : IsLastClause texts (codes "case_clause") n m last
+  pub is_last : IsLastClause texts (codes "case_clause") 1 n m last
   pub in_range : m ≤ most_variables
   pub finished : FinishesAll (shared arms) arms made
   pub is : e ≡ c.case_of x (clauses (made ++ last ∷ []))

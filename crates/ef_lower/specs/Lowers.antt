@@ -23,6 +23,7 @@ use Rattle.ef_forms.specs.Tree.{Tree}
 use Rattle.ef_forms.specs.Sure.{all_sure}
 use Rattle.ef_forms.specs.Ways.{NameSet}
 use Rattle.ef_forms.specs.Weight.{all_weight}
+use Rattle.ef_lowpat.specs.Budgets.{depth_per_level, variables_per_unit}
 use Rattle.ef_meaning.specs.Lowers.{KeepsExpr, KeepsAll}
 use Rattle.ef_lower.specs.LastCalls.{StaysLast}
 use Rattle.ef_lower.specs.Ready.{IsReadableBind, bound_names}
@@ -55,9 +56,9 @@ Finishes (s ∷ ss) value e = e ≡ lets (steps (s ∷ ss)) value
 
 -- ---- their forms
 
--- at most 16 deep for each level of the source, two nodes round it included
+-- no deeper than the levels of the source allow, two nodes round it included
 abbrev pub IsShallow : ℕ → CoreTree → Type 0
-IsShallow levels e = depth e + 2 ≤ 16 * levels
+IsShallow levels e = depth e + 2 ≤ depth_per_level * levels
 
 pub record IsLoweredStep (texts : Texts) (levels : ℕ) (s : StepTree) : Type 0 where
   pub variables : Each (lowered texts).variable s.vars
@@ -84,7 +85,7 @@ module _ (texts : Texts) (defined : List FunctionName) (es : List Tree) (n0 : �
     pub names : Binds texts env0 (all_sure (trees es)) env1
     pub number : length values ≡ length es
     pub drawn : n0 ≤ n1
-    pub enough : n1 ≤ n0 + 500 * all_weight (trees es)
+    pub enough : n1 ≤ n0 + variables_per_unit * all_weight (trees es)
     pub steps : Each (IsLoweredStep texts (all_depth (trees es))) added
     pub arguments : Each (IsArgument texts (all_depth (trees es))) values
     pub in_scope : AreInScope texts defined env0 added env1 values
@@ -93,7 +94,7 @@ module _ (texts : Texts) (defined : List FunctionName) (es : List Tree) (n0 : �
   pub record ValueForm (value : CoreTree) : Type 0 where
     pub names : Binds texts env0 (all_sure (trees es)) env1
     pub drawn : n0 ≤ n1
-    pub enough : n1 + 1 ≤ n0 + 500 * all_weight (trees es)
+    pub enough : n1 + 1 ≤ n0 + variables_per_unit * all_weight (trees es)
     pub steps : Each (IsLoweredStep texts (all_depth (trees es))) added
     pub lowered : IsLowered texts value
     pub no_run : IsNoRun value

@@ -1,5 +1,5 @@
 -- What a match is lowered to.
-use Rattle.std.specs.Prelude.{ℕ, ◌≡◌, ◌≤◌, ◌+◌, ◌*◌, ◌||◌, ◌⊎◌, List, [], ◌∷◌, ◌++◌, None, codes, length}
+use Rattle.std.specs.Prelude.{ℕ, ◌≡◌, ◌≤◌, ◌+◌, ◌*◌, ◌||◌, ◌⊎◌, List, [], ◌∷◌, ◌++◌, None, codes, length, min}
 use Rattle.ef_base.specs.declared.name.Name.{Name}
 use Rattle.ef_base.specs.declared.fault.Place.{Place}
 use Rattle.ef_base.specs.Texts.{Texts, IsNameOf}
@@ -12,9 +12,9 @@ use Rattle.ef_core.specs.Conditions.{NoneTwice}
 use Rattle.ef_core.specs.Depth.{depth, pats_depth}
 use Rattle.ef_core.specs.Env.{NamesDiffer, bind, held}
 use Rattle.ef_core.specs.Everywhere.{Each, PatsHold}
-use Rattle.ef_core.specs.Fresh.{DrawsAtMost, most_variables}
+use Rattle.ef_core.specs.Fresh.{DrawsAtMost, most_variables, variables_from}
 use Rattle.ef_core.specs.Lowered.{IsLowered, IsReadableBind, lowered}
-use Rattle.ef_core.specs.Plain.{ClauseTree, StepTree, clauses, steps, trees}
+use Rattle.ef_core.specs.Plain.{ClauseTree, StepTree, clauses, lits, steps, trees}
 use Rattle.ef_core.specs.Scope.{IsAmong, InScope, SizesInScope, pats_vars}
 use Rattle.ef_core.specs.Tree as c
 use Rattle.ef_core.specs.Tree.{CoreTree, PatTrees}
@@ -22,7 +22,8 @@ use Rattle.ef_forms.specs.Depth.{all_depth}
 use Rattle.ef_forms.specs.Tree.{Tree, Trees, tree, any, var, end, more}
 use Rattle.ef_forms.specs.Ways.{all_names}
 use Rattle.ef_forms.specs.Weight.{all_weight}
-use Rattle.ef_meaning.specs.Cases.{last_clause, names_of, together}
+use Rattle.ef_lowpat.specs.Budgets.{variables_per_pattern}
+use Rattle.ef_meaning.specs.Cases.{last_clause, names_of, together, variables}
 use Rattle.ef_meaning.specs.Lowers.{env_from, params_from}
 use Rattle.ef_meaning.specs.Named.{bound_names}
 use Rattle.ef_meaning.specs.Patterns.{IsGuard, KeepsPatterns}
@@ -31,7 +32,7 @@ use Rattle.ef_lowpat.specs.Lowers.{IsVariableOf}
 use Rattle.ef_lower.specs.Exports.{held_variables}
 use Rattle.ef_lower.specs.Lowers.{StandsFor}
 
--- ---- the parts of its step
+-- ---- the front of a clause
 
 -- a guard that says what the tests say
 pub record IsGuardOf (texts : Texts) (tests : List Test) (e : CoreTree) : Type 0 where
@@ -54,7 +55,7 @@ pub record IsPatternsOf (texts : Texts) (ps : Trees) (n : ℕ) (bound : List Bin
   pub readable_binds : Each (IsReadableBind texts) binds
   pub sizes : (vs : List CoreVar) (fs : List FName) → SizesInScope vs fs made
   pub shallow : pats_depth made ≤ all_depth ps
-  pub drawn : DrawsAtMost (50 * all_weight ps) n m
+  pub drawn : DrawsAtMost (variables_per_pattern * all_weight ps) n m
 
 -- the front of a clause: Core patterns, the guard of the tests beside them, and the names that they bind
 pub record IsFrontOf (texts : Texts) (ps : Trees) (n : ℕ) (env : List Bind) (m : ℕ) (made : PatTrees) (guard : CoreTree) (binds : List Bind) : Type 0 where
@@ -69,25 +70,35 @@ pub record IsFrontOf (texts : Texts) (ps : Trees) (n : ℕ) (env : List Bind) (m
 abbrev pub match_clause : PatTrees → CoreTree → List Bind → ClauseTree
 match_clause made guard binds = record { pats = made; guard = guard; body = together (held_variables binds) }
 
--- an error with the reason `{Why, Value}`, which a step puts into a variable
-pub record FailsWith (texts : Texts) (word : List ℕ) (z y : CoreVar) (e : CoreTree) : Type 0 where
+-- ---- the clause for all other values
+
+-- an error whose reason is the tuple of a word and the values of variables: a literal, or what a step puts into a variable
+abbrev pub failing : Name → Name → List CoreVar → CoreVar → CoreTree
+failing match_fail why [] y = c.primop match_fail (trees (c.lit (c.lit_tuple (lits (c.atom why ∷ []))) ∷ []))
+failing match_fail why (z ∷ zs) y =
+    c.lets (steps (record { vars = y ∷ []; value = c.tuple (trees (c.lit (c.atom why) ∷ variables (z ∷ zs))) } ∷ [])) (c.primop match_fail (trees (c.var y ∷ [])))
+
+pub record FailsWith (texts : Texts) (word : List ℕ) (zs : List CoreVar) (y : CoreVar) (e : CoreTree) : Type 0 where
   pub match_fail : Name
   pub why : Name
   pub match_fail_text : IsNameOf texts match_fail (codes "match_fail")
   pub why_text : IsNameOf texts why word
-  pub is : e ≡ c.lets (steps (record { vars = y ∷ []; value = c.tuple (trees (c.lit (c.atom why) ∷ c.var z ∷ [])) } ∷ [])) (c.primop match_fail (trees (c.var y ∷ [])))
+  pub is : e ≡ failing match_fail why zs y
 
--- the clause for every other value, which raises an error with this word
-pub record IsLastClause (texts : Texts) (word : List ℕ) (n m : ℕ) (last : ClauseTree) : Type 0 where
+-- a clause for so many values, whatever they are, which raises an error with this word and the values
+pub record IsLastClause (texts : Texts) (word : List ℕ) (count n m : ℕ) (last : ClauseTree) : Type 0 where
   pub always : CoreTree
   pub fails : CoreTree
+  -- the first of its variables; where there are any, one more holds the reason
   pub z : ℕ
   pub drawn : n ≤ z
-  pub enough : m ≤ n + 4
-  pub next : m ≡ z + 2
+  pub enough : m ≤ n + count + 3
+  pub next : m ≡ z + count + min count 1
   pub is_guard : IsGuardOf texts [] always
-  pub is_error : FailsWith texts word (Numbered z) (Numbered (z + 1)) fails
-  pub is : last ≡ last_clause always (Numbered z ∷ []) fails
+  pub is_error : FailsWith texts word (variables_from z count) (Numbered (z + count)) fails
+  pub is : last ≡ last_clause always (variables_from z count) fails
+
+-- ---- the step of a match
 
 -- a step that matches a variable; the step's own variables hold what the names are bound to
 pub record IsMatchStep (texts : Texts) (p : Tree) (x : CoreVar) (n : ℕ) (env : List Bind) (m : ℕ) (env1 : List Bind) (s : StepTree) : Type 0 where
@@ -103,7 +114,7 @@ pub record IsMatchStep (texts : Texts) (p : Tree) (x : CoreVar) (n : ℕ) (env :
   pub is_pattern : IsPatternsOf texts (more p end) n env made tests matched binds
   pub is_guard : IsGuardOf texts tests guard
   pub guard_drawn : DrawsAtMost 2 matched guarded
-  pub is_last : IsLastClause texts (codes "badmatch") guarded first last
+  pub is_last : IsLastClause texts (codes "badmatch") 1 guarded first last
   pub drawn : m ≡ first + length binds
   pub in_range : m ≤ most_variables
   pub bound : env1 ≡ env ++ env_from first (names_of binds)

@@ -11,6 +11,7 @@ use Rattle.ef_forms.specs.Built.{IsBuiltTree, AreBuilt, ArePatterns, IsNarrow, A
 use Rattle.ef_forms.specs.OfTable.{TreeOf, TreesOf}
 use Rattle.ef_forms.specs.Plain.{ClauseTree, trees}
 use Rattle.ef_forms.specs.Ways.{NameSet, union, all_names, faults, all_faults, body_faults}
+use Rattle.ef_lowpat.specs.Budgets.{variables_per_unit}
 use Rattle.ef_meaning.specs.Lowers.{AreBelow}
 pub use Rattle.ef_meaning.specs.Named.{bound_names}
 
@@ -44,7 +45,7 @@ pub record IsReadyClause (texts : Texts) (defined : List FunctionName) (bound : 
 pub record HasPlace (texts : Texts) (n : ℕ) (env : List Bind) (weight : ℕ) : Type 0 where
   pub readable : Each (IsReadableBind texts) env
   pub below : AreBelow n env
-  pub enough : n + 500 * weight ≤ most_variables
+  pub enough : n + variables_per_unit * weight ≤ most_variables
 
 -- the texts that are named in what trees are lowered to
 abbrev pub lower_words : List (List ℕ)

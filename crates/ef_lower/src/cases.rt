@@ -53,7 +53,7 @@ fn choice_of(
     ensures { IfOk result (λ e. IsCaseOf names.now (core.plain arg) (map plain_arm arms.items) fresh.old fresh.new (core.plain e)) }
 {
     let mut clauses = finish_arms(alloc, binds, arms)?;
-    let last = last_clause(alloc, names, fresh, "case_clause")?;
+    let last = last_clause(alloc, names, fresh, "case_clause", 1)?;
     clauses.push(last)?;
     let arg = Box::new(alloc, arg)?;
     Ok(CoreExpr::Case { arg, clauses })

@@ -9,6 +9,7 @@ ghost use Rattle.ef_forms.specs.OfTable.{TreesOf};
 ghost use Rattle.ef_forms.specs.Plain as source;
 ghost use Rattle.ef_forms.specs.Plain.{plain_all};
 ghost use Rattle.ef_forms.specs.Weight.{all_weight};
+ghost use Rattle.ef_lowpat.specs.Budgets.{variables_per_pattern};
 ghost use Rattle.ef_lowpat.specs.Guards.{HoldsWords};
 ghost use Rattle.ef_lower.specs.Arms.{IsFront};
 ghost use Rattle.ef_lower.specs.Matches.{IsFrontOf};
@@ -49,7 +50,7 @@ pub fn front_of(
     requires of_table { TreesOf names.now (source.trees (source.plain_clause clause.now).patterns) }
     requires readable { Each (IsReadableBind names.now) env.old }
     requires below { AreBelow fresh.old env.old }
-    requires enough { fresh.old + 50 * all_weight (source.trees (source.plain_clause clause.now).patterns) + 2 ≤ most_variables }
+    requires enough { fresh.old + variables_per_pattern * all_weight (source.trees (source.plain_clause clause.now).patterns) + 2 ≤ most_variables }
     ensures { IfOk result (λ f. IsFront names.now (source.plain_clause clause.now) fresh.old env.old fresh.new env.new (plain_pats f.pats.items) (plain f.guard)) }
 {
     let made = binding_front(alloc, names, &clause.patterns, env, fresh)?;
@@ -71,7 +72,7 @@ pub fn binding_front(
     requires of_table { TreesOf names.now (plain_all pats.now) }
     requires readable { Each (IsReadableBind names.now) env.now }
     requires below { AreBelow fresh.old env.now }
-    requires enough { fresh.old + 50 * all_weight (plain_all pats.now) + 2 ≤ most_variables }
+    requires enough { fresh.old + variables_per_pattern * all_weight (plain_all pats.now) + 2 ≤ most_variables }
     ensures { IfOk result (λ f. IsFrontOf names.now (plain_all pats.now) fresh.old env.now fresh.new (plain_pats f.front.pats.items) (plain f.front.guard) f.binds.items) }
 {
     let lowered = pattern(alloc, names, fresh, pats, env, env)?;

@@ -15,5 +15,6 @@ mod steps;
 mod values;
 
 pub use front::{BindingFront, Front, binding_front};
+pub use last::last_clause;
 pub use lower::{LoweredExpr, body, closed_body, expression};
-pub use values::together;
+pub use values::{draw_variables, push_values, together};

@@ -13,6 +13,7 @@ ghost use Rattle.ef_forms.specs.Sure.{all_sure, sure};
 ghost use Rattle.ef_forms.specs.Tree.{end, more};
 ghost use Rattle.ef_forms.specs.Ways.{body_faults, faults};
 ghost use Rattle.ef_forms.specs.Weight.{all_weight, weight};
+ghost use Rattle.ef_lowpat.specs.Budgets.{depth_per_level, variables_per_unit};
 ghost use Rattle.ef_lowpat.specs.Guards.{HoldsWords};
 ghost use Rattle.ef_lower.specs.Exports.{IsExported};
 ghost use Rattle.ef_lower.specs.LastCalls.{KeepsLastCalls};
@@ -46,15 +47,15 @@ pub fn expression(
     requires readable { Each (IsReadableBind names.old) env.now }
     requires no_faults { faults names.old (plain expr.now) (bound_names env.now ∷ []) ≡ [] }
     requires below { AreBelow fresh.old env.now }
-    requires enough { fresh.old + 500 * weight (plain expr.now) ≤ most_variables }
+    requires enough { fresh.old + variables_per_unit * weight (plain expr.now) ≤ most_variables }
     ensures kept { Extends names.old names.new }
     ensures differ { AllDiffer names.old → AllDiffer names.new }
     ensures utf8 { AllUtf8 names.old → AllUtf8 names.new }
     ensures lowered { IfOk result (λ r. IsLowered names.new (core.plain r.core)) }
     ensures in_scope { IfOk result (λ r. IsInScope names.old tables.now.functions.items env.now (core.plain r.core)) }
-    ensures shallow { IfOk result (λ r. deep.depth (core.plain r.core) + 1 ≤ 16 * depth (plain expr.now)) }
+    ensures shallow { IfOk result (λ r. deep.depth (core.plain r.core) + 1 ≤ depth_per_level * depth (plain expr.now)) }
     ensures exports { IfOk result (λ r. IsExported env.now (sure (plain expr.now)) r.exports.items) }
-    ensures drawn { IfOk result (λ r. Draws (500 * weight (plain expr.now)) fresh.old fresh.new) }
+    ensures drawn { IfOk result (λ r. Draws (variables_per_unit * weight (plain expr.now)) fresh.old fresh.new) }
     ensures last_calls { IfOk result (λ r. r.exports.items ≡ [] → KeepsLastCalls (bound_names env.now) (more (plain expr.now) end) (core.plain r.core)) }
     ensures means { IfOk result (λ r. KeepsBody names.new (plain expr.now ∷ []) env.now r.exports.items (core.plain r.core)) }
 {
@@ -81,15 +82,15 @@ pub fn body(
     requires readable { Each (IsReadableBind names.old) env.now }
     requires no_faults { body_faults names.old (plain_all exprs.now) (bound_names env.now ∷ []) ≡ [] }
     requires below { AreBelow fresh.old env.now }
-    requires enough { fresh.old + 500 * all_weight (plain_all exprs.now) ≤ most_variables }
+    requires enough { fresh.old + variables_per_unit * all_weight (plain_all exprs.now) ≤ most_variables }
     ensures kept { Extends names.old names.new }
     ensures differ { AllDiffer names.old → AllDiffer names.new }
     ensures utf8 { AllUtf8 names.old → AllUtf8 names.new }
     ensures lowered { IfOk result (λ r. IsLowered names.new (core.plain r.core)) }
     ensures in_scope { IfOk result (λ r. IsInScope names.old tables.now.functions.items env.now (core.plain r.core)) }
-    ensures shallow { IfOk result (λ r. deep.depth (core.plain r.core) + 1 ≤ 16 * all_depth (plain_all exprs.now)) }
+    ensures shallow { IfOk result (λ r. deep.depth (core.plain r.core) + 1 ≤ depth_per_level * all_depth (plain_all exprs.now)) }
     ensures exports { IfOk result (λ r. IsExported env.now (all_sure (plain_all exprs.now)) r.exports.items) }
-    ensures drawn { IfOk result (λ r. Draws (500 * all_weight (plain_all exprs.now)) fresh.old fresh.new) }
+    ensures drawn { IfOk result (λ r. Draws (variables_per_unit * all_weight (plain_all exprs.now)) fresh.old fresh.new) }
     ensures last_calls { IfOk result (λ r. r.exports.items ≡ [] → KeepsLastCalls (bound_names env.now) (plain_all exprs.now) (core.plain r.core)) }
     ensures means { IfOk result (λ r. KeepsBody names.new (map plain exprs.now) env.now r.exports.items (core.plain r.core)) }
 {
@@ -116,14 +117,14 @@ pub fn closed_body(
     requires readable { Each (IsReadableBind names.old) env }
     requires no_faults { body_faults names.old (plain_all exprs.now) (bound_names env ∷ []) ≡ [] }
     requires below { AreBelow fresh.old env }
-    requires enough { fresh.old + 500 * all_weight (plain_all exprs.now) ≤ most_variables }
+    requires enough { fresh.old + variables_per_unit * all_weight (plain_all exprs.now) ≤ most_variables }
     ensures kept { Extends names.old names.new }
     ensures differ { AllDiffer names.old → AllDiffer names.new }
     ensures utf8 { AllUtf8 names.old → AllUtf8 names.new }
     ensures lowered { IfOk result (λ e. IsLowered names.new (core.plain e)) }
     ensures in_scope { IfOk result (λ e. IsInScope names.old tables.now.functions.items env (core.plain e)) }
-    ensures shallow { IfOk result (λ e. deep.depth (core.plain e) + 1 ≤ 16 * all_depth (plain_all exprs.now)) }
-    ensures drawn { IfOk result (λ e. Draws (500 * all_weight (plain_all exprs.now)) fresh.old fresh.new) }
+    ensures shallow { IfOk result (λ e. deep.depth (core.plain e) + 1 ≤ depth_per_level * all_depth (plain_all exprs.now)) }
+    ensures drawn { IfOk result (λ e. Draws (variables_per_unit * all_weight (plain_all exprs.now)) fresh.old fresh.new) }
     ensures last_calls { IfOk result (λ e. KeepsLastCalls (bound_names env) (plain_all exprs.now) (core.plain e)) }
     ensures means { IfOk result (λ e. KeepsBody names.new (map plain exprs.now) env [] (core.plain e)) }
 {

@@ -14,6 +14,7 @@ ghost use Rattle.ef_forms.specs.OfTable.{TreeOf};
 ghost use Rattle.ef_forms.specs.Plain.{plain};
 ghost use Rattle.ef_forms.specs.Tree as t;
 ghost use Rattle.ef_forms.specs.Weight.{weight};
+ghost use Rattle.ef_lowpat.specs.Budgets.{variables_per_match, variables_per_pattern};
 ghost use Rattle.ef_lowpat.specs.Guards.{HoldsWords};
 ghost use Rattle.ef_lower.specs.Matches.{FailsWith, IsLastClause, IsMatchStep, Matches, match_clause};
 ghost use Rattle.ef_lower.specs.Ready.{lower_words};
@@ -46,7 +47,7 @@ pub fn match_value(
     requires of_table { TreeOf names.now (plain pat.now) }
     requires readable { Each (IsReadableBind names.now) env.old }
     requires below { AreBelow fresh.old env.old }
-    requires enough { fresh.old + 100 * weight (plain pat.now) ≤ most_variables }
+    requires enough { fresh.old + variables_per_match * weight (plain pat.now) ≤ most_variables }
     ensures { IfOk result (λ e. Matches names.now (plain pat.now) (core.plain value) fresh.old env.old (map plain_step steps.old.items) fresh.new env.new (map plain_step steps.new.items) (core.plain e)) }
 {
     if is_any(pat) {
@@ -101,11 +102,11 @@ fn match_step(
     requires of_table { TreeOf names.now (plain pat.now) }
     requires readable { Each (IsReadableBind names.now) env.old }
     requires below { AreBelow fresh.old env.old }
-    requires enough { fresh.old + 51 * weight (plain pat.now) + 6 ≤ most_variables }
+    requires enough { fresh.old + variables_per_pattern * weight (plain pat.now) + weight (plain pat.now) + 6 ≤ most_variables }
     ensures { IfOk result (λ s. IsMatchStep names.now (plain pat.now) var fresh.old env.old fresh.new env.new (plain_step s)) }
 {
     let made = binding_front(alloc, names, from_ref(pat), env, fresh)?;
-    let last = last_clause(alloc, names, fresh, "badmatch")?;
+    let last = last_clause(alloc, names, fresh, "badmatch", 1)?;
     let mut vars = Vec::new(alloc);
     rename(&mut vars, &made.binds, env, fresh)?;
     let value = match_case(alloc, var, made, last)?;

@@ -1,13 +1,15 @@
 -- A case of the parameters, from its clauses.
-use Rattle.std.proofs.Common.{◌≡◌, ◌≤◌, ◌<◌, ◌+◌, ◌*◌, ℕ, List, [], ◌∷◌, ◌++◌, length, get_or, take, map, sym, ap, ◌∙◌, subst, arith}
+use Rattle.std.proofs.Common.{◌≡◌, ◌≤◌, ◌<◌, ◌+◌, ◌*◌, ℕ, codes, List, [], ◌∷◌, ◌++◌, length, get_or, take, map, sym, ap, ◌∙◌, subst, arith}
 use Rattle.std.proofs.lemmas.List.{take_more}
 use Rattle.ef_base.specs.Texts.{Texts, Extends}
 use Rattle.ef_core.specs.declared.literal.CoreVar.{CoreVar}
+use Rattle.ef_core.specs.declared.literal.CoreVar.TheVariants.{Numbered}
 use Rattle.ef_core.specs.declared.literal.FName.{FName}
 use Rattle.ef_core.specs.Conditions.{NoneTwice, VariablesDiffer}
 use Rattle.ef_core.specs.Depth as deep
-use Rattle.ef_core.specs.Depth.{depth, pats_depth}
+use Rattle.ef_core.specs.Depth.{depth}
 use Rattle.ef_core.specs.Everywhere.{ClausesHold, Each}
+use Rattle.ef_core.specs.Fresh.{most_variables, variables_from}
 use Rattle.ef_core.specs.Lowered.{IsLowered, lowered}
 use Rattle.ef_core.specs.Plain.{ClauseTree, clauses}
 use Rattle.ef_core.specs.Readable.{readable}
@@ -20,15 +22,19 @@ use Rattle.ef_forms.specs.declared.tables.FunctionName.{FunctionName}
 use Rattle.ef_forms.specs.Depth.{clauses_depth}
 use Rattle.ef_forms.specs.Plain.{plain, plain_all, plain_clauses}
 use Rattle.ef_forms.specs.Tree.{clause}
+use Rattle.ef_lower.specs.Matches.{FailsWith, IsLastClause}
 use Rattle.ef_lower.specs.Scope.{HasFunctions}
-use Rattle.ef_lower.proofs.Scopes.{among_first}
-use Rattle.ef_lowmod.specs.Clauses.{AreLoweredClauses, IsLastClause, IsLoweredBody, IsLoweredClause}
-use Rattle.ef_lowmod.proofs.Raises.{among_themselves, patterns, patterns_depth, patterns_lowered, patterns_sizes, patterns_vars, variables_depth, variables_in_scope, variables_lowered, variables_single}
+use Rattle.ef_lower.proofs.LastClause.{last_lowered}
+use Rattle.ef_lower.proofs.Numbered.{numbered_count}
+use Rattle.ef_lower.proofs.Listed.{among_themselves, variables_depth, variables_in_scope, variables_lowered, variables_single}
+use Rattle.ef_lowmod.specs.Clauses.{AreLoweredClauses, IsLoweredBody, IsLoweredClause}
 use Rattle.ef_lowmod.proofs.Lowered.{has_earlier, lowered_later, pats_lowered_later, variable_lowered}
-use Rattle.ef_meaning.specs.Cases.{together, variables}
+use Rattle.ef_lowpat.specs.Budgets.{depth_per_level}
+use Rattle.ef_meaning.specs.Cases.{FailsFunction, together, variables}
 use Rattle.ef_meaning.specs.Lowers.{KeepsFunction}
 use Rattle.ef_meaning.specs.Patterns.{KeepsPicks}
 use Rattle.ef_meaning.specs.Source.{by_clauses}
+use Rattle.ef_meaning.proofs.Fails.{function_literal_fails, function_step_fails}
 use Rattle.ef_meaning.proofs.Functions.{function_body_keeps}
 use Rattle.ef_meaning.proofs.Later.{body_later, guard_later, patterns_later}
 use Rattle.ef_meaning.proofs.Picks.{picks_clause, picks_none}
@@ -105,7 +111,7 @@ module _ (all : Texts) (defined : List FunctionName) where
     clauses_in_scope vs fs (c ∷ cs) (m ∷ ms) has are is =
         let one = are.0.in_scope vs fs has in (one.0, one.1, one.2, clauses_in_scope vs fs cs ms has are.1 is)
 
-    clauses_shallow : (levels : ℕ) (cs : List Clause) (ms : List ClauseTree) → AreLoweredClauses all defined cs ms → clauses_depth (plain_clauses cs) ≤ levels → deep.clauses_depth (clauses (last ∷ [])) + 1 ≤ 16 * levels → deep.clauses_depth (clauses (ms ++ last ∷ [])) + 1 ≤ 16 * levels
+    clauses_shallow : (levels : ℕ) (cs : List Clause) (ms : List ClauseTree) → AreLoweredClauses all defined cs ms → clauses_depth (plain_clauses cs) ≤ levels → deep.clauses_depth (clauses (last ∷ [])) + 1 ≤ depth_per_level * levels → deep.clauses_depth (clauses (ms ++ last ∷ [])) + 1 ≤ depth_per_level * levels
     clauses_shallow levels [] [] are within is = is
     clauses_shallow levels [] (m ∷ ms) are within is = absurd are
     clauses_shallow levels (c ∷ cs) [] are within is = absurd are
@@ -135,51 +141,37 @@ together_depth [] = omega arith
 together_depth (y ∷ []) = omega arith
 together_depth (y ∷ z ∷ ys) = let flat = variables_depth (y ∷ z ∷ ys) in omega arith
 
+-- ---- the last clause
+
+function_fails : (all : Texts) (ys : List CoreVar) (y : CoreVar) (e : CoreTree) → FailsWith all (codes "function_clause") ys y e → FailsFunction all ys e
+function_fails all [] y e error = subst (FailsFunction all []) (sym error.is) (function_literal_fails all error.match_fail error.why error.match_fail_text error.why_text)
+function_fails all (z ∷ zs) y e error = subst (FailsFunction all (z ∷ zs)) (sym error.is) (function_step_fails all error.match_fail error.why (z ∷ zs) error.match_fail_text error.why_text y)
+
 -- ---- the case
 
-module _ (all : Texts) (defined : List FunctionName) (count : ℕ) (last : ClauseTree) (is : IsLastClause all count last) where
-  last_lowered : ClausesHold (lowered all) (clauses (last ∷ []))
-  last_lowered = subst (λ m. ClausesHold (lowered all) (clauses (m ∷ []))) (sym is.is) (patterns_lowered all is.vars is.in_range, is.lowered, is.raises.lowered is.in_range, tt)
-
-  last_differs : NoneTwice (pats_vars last.pats)
-  last_differs = subst (λ (m : ClauseTree). NoneTwice (pats_vars m.pats)) (sym is.is) (subst NoneTwice (sym (patterns_vars is.vars)) is.distinct)
-
-  last_in_scope : (vs : List CoreVar) (fs : List FName) → ClausesInScope vs fs (clauses (last ∷ []))
-  last_in_scope vs fs =
-      let us = pats_vars (patterns is.vars) ++ vs in
-      subst (λ m. ClausesInScope vs fs (clauses (m ∷ []))) (sym is.is)
-      (patterns_sizes vs fs is.vars, is.in_scope us fs, is.raises.in_scope us fs (taken is.vars (patterns_vars is.vars) vs), tt)
-    where
-      each_first : (ys us vs : List CoreVar) → Each (IsAmong us) ys → Each (IsAmong (us ++ vs)) ys
-      each_first [] us vs are = tt
-      each_first (y ∷ ys) us vs are = (among_first us vs y are.0, each_first ys us vs are.1)
-
-      taken : (ys : List CoreVar) → pats_vars (patterns ys) ≡ ys → (vs : List CoreVar) → Each (IsAmong (pats_vars (patterns ys) ++ vs)) ys
-      taken ys same vs = subst (λ us. Each (IsAmong (us ++ vs)) ys) (sym same) (each_first ys ys vs (among_themselves ys))
-
-  last_depth : deep.clauses_depth (clauses (last ∷ [])) ≤ 3
-  last_depth =
-      let flat = patterns_depth is.vars in let guard = is.shallow in let body = is.raises.shallow in
-      subst (λ m. deep.clauses_depth (clauses (m ∷ [])) ≤ 3) (sym is.is) (omega arith)
-
-pub case_lowered : (all : Texts) (defined : List FunctionName) (cs : List Clause) (ms : List ClauseTree) (params : List CoreVar) (last : ClauseTree) (e : CoreTree) →
-    1 ≤ clauses_depth (plain_clauses cs) → NoneTwice params → Each (readable all).variable params → AreLoweredClauses all defined cs ms → IsLastClause all (length params) last →
+pub case_lowered : (all : Texts) (defined : List FunctionName) (cs : List Clause) (ms : List ClauseTree) (params : List CoreVar) (n m : ℕ) (last : ClauseTree) (e : CoreTree) →
+    1 ≤ clauses_depth (plain_clauses cs) → NoneTwice params → Each (readable all).variable params → AreLoweredClauses all defined cs ms →
+    IsLastClause all (codes "function_clause") (length params) n m last → m ≤ most_variables →
     e ≡ c.case_of (together (variables params)) (clauses (ms ++ last ∷ [])) → IsLoweredBody all defined (plain_clauses cs) params e
-case_lowered all defined cs ms params last e some differ in_range are is same = subst (IsLoweredBody all defined (plain_clauses cs) params) (sym same) (record {
-  keeps = subst (λ m. KeepsFunction all (by_clauses (plain_clauses cs) []) params (c.case_of (together (variables params)) (clauses (ms ++ m ∷ [])))) (sym is.is)
-      (function_body_keeps all (plain_clauses cs) params ms is.guard is.vars is.body differ is.number is.always is.raises.fails (clauses_keep all defined cs ms are));
-  lowered = (
-    (tt, ((tt, (some_clauses ms last, tt)), (clauses_differ all defined last (together (variables params)) cs ms are (last_differs all defined (length params) last is), tt, tt))),
-    together_lowered all params in_range,
-    clauses_lowered all defined last cs ms are (last_lowered all defined (length params) last is),
-  );
-  in_scope = λ fs has. (
-    together_in_scope params fs params (among_themselves params),
-    clauses_in_scope all defined last params fs cs ms has are (last_in_scope all defined (length params) last is params fs),
-  );
-  shallow =
-      let flat = together_depth params in
-      let deepest = last_depth all defined (length params) last is in
-      let all_clauses = clauses_shallow all defined last (clauses_depth (plain_clauses cs)) cs ms are (omega arith) (omega arith) in
-      omega arith;
-})
+case_lowered all defined cs ms params n m last e some differ in_range are is fits same =
+    let ys = variables_from is.z (length params) in
+    let levels = clauses_depth (plain_clauses cs) in
+    let end = last_lowered all defined [] levels some (codes "function_clause") (length params) n m last is fits in
+    subst (IsLoweredBody all defined (plain_clauses cs) params) (sym same) (record {
+      keeps = subst (λ k. KeepsFunction all (by_clauses (plain_clauses cs) []) params (c.case_of (together (variables params)) (clauses (ms ++ k ∷ [])))) (sym is.is)
+          (function_body_keeps all (plain_clauses cs) params ms is.always ys is.fails differ (numbered_count is.z (length params)) is.is_guard.gives
+          (function_fails all ys (Numbered (is.z + length params)) is.fails is.is_error) (clauses_keep all defined cs ms are));
+      lowered = (
+        (tt, ((tt, (some_clauses ms last, tt)), (clauses_differ all defined last (together (variables params)) cs ms are end.distinct, tt, tt))),
+        together_lowered all params in_range,
+        clauses_lowered all defined last cs ms are (end.pats, end.guard, end.body, tt),
+      );
+      in_scope = λ fs has. (
+        together_in_scope params fs params (among_themselves params),
+        clauses_in_scope all defined last params fs cs ms has are (let here = end.in_scope params fs tt has in (here.0, here.1, here.2, tt)),
+      );
+      shallow =
+          let flat = together_depth params in let deepest = end.shallow in
+          let all_clauses = clauses_shallow all defined last levels cs ms are (omega arith) (omega arith) in
+          omega arith;
+    })

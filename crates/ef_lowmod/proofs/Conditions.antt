@@ -25,6 +25,7 @@ use Rattle.ef_forms.specs.Built.{IsBuilt, IsBuiltFunction, IsDefined, IsDistinct
 use Rattle.ef_forms.specs.Tree.{FunctionTree, ModuleTree}
 use Rattle.ef_lower.proofs.Scopes.{among_more}
 use Rattle.ef_lower.specs.Scope.{HasFunctions, core_name}
+use Rattle.ef_lower.proofs.Numbered.{numbered_readable, numbered_differ}
 use Rattle.ef_lowmod.specs.declared.info.Fixed.{Fixed}
 use Rattle.ef_lowmod.specs.Function.{AreLowered, IsLoweredFunction}
 use Rattle.ef_lowmod.specs.Info.{AreFixed, fname, info_def, item_def}
@@ -32,7 +33,6 @@ use Rattle.ef_lowmod.specs.Form.{AreShallow, HasLetForm, IsShallowFor}
 use Rattle.ef_lowmod.specs.Outline.{Outline, is_other}
 use Rattle.ef_lowmod.specs.Whole.{IsLoweredModule}
 use Rattle.ef_lowmod.proofs.Lowered.{atom_lowered, lowered_conditions, lowered_let_form, lowered_readable, text_within, variable_lowered}
-use Rattle.ef_lowmod.proofs.Numbered.{numbered_readable, numbered_differ}
 
 -- ---- lists
 

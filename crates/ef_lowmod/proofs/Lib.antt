@@ -1,9 +1,7 @@
-pub mod Numbered
 pub mod Lowered
 pub mod Later
 pub mod Ready
 pub mod Parameters
-pub mod Raises
 pub mod OneClause
 pub mod OwnNames
 pub mod Cases

@@ -26,6 +26,7 @@ use Rattle.ef_lower.proofs.Scopes.{among_first}
 use Rattle.ef_lowmod.specs.Clauses.{IsLoweredClause}
 use Rattle.ef_lowmod.specs.Parameters.{AreParameters, HasOwnNames, own_names}
 use Rattle.ef_lowmod.proofs.Lowered.{has_earlier, lowered_later, pats_lowered_later}
+use Rattle.ef_lowpat.specs.Budgets.{depth_per_level}
 use Rattle.ef_lowpat.specs.Guards.{HasTested}
 use Rattle.ef_lowpat.specs.Lowers.{IsVariableOf}
 use Rattle.ef_meaning.specs.Lowers.{AreBelow, KeepsBody}
@@ -83,7 +84,7 @@ pub record BodyFacts (now all : Texts) (defined : List FunctionName) (es : List 
   pub means : KeepsBody all (map plain es) env [] made.body
   pub lowered : IsLowered all made.body
   pub in_scope : IsInScope now defined env made.body
-  pub shallow : depth made.body + 1 ≤ 16 * all_depth (plain_all es)
+  pub shallow : depth made.body + 1 ≤ depth_per_level * all_depth (plain_all es)
 
 pub clause_lowered : (now all : Texts) (defined : List FunctionName) (c : Clause) (ps es : List Expr) (bound binds env : List Bind) (tests : List Test) (n0 n1 : ℕ) (made : ClauseTree) → Extends now all →
     ps ≡ (out-Clause c).patterns.items → es ≡ (out-Clause c).body.items → bound ≡ [] → env ≡ binds → plain_guard (out-Clause c).guard.items ≡ no_guard → 1 ≤ length (out-Clause c).body.items →

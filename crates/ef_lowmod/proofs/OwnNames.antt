@@ -21,14 +21,15 @@ use Rattle.ef_forms.specs.Ways.{all_names, body_faults}
 use Rattle.ef_forms.specs.Weight.{all_weight, clauses_weight}
 use Rattle.ef_forms.proofs.Plain.{counted}
 use Rattle.ef_lower.specs.Scope.{HasVariables, IsInScope}
+use Rattle.ef_lower.proofs.Numbered.{numbered_below, numbered_count, numbered_readable}
+use Rattle.ef_lower.proofs.Listed.{among_themselves}
 use Rattle.ef_lowmod.specs.Clauses.{AreReadyClauses, IsLoweredBody, IsReadyClause}
 use Rattle.ef_lowmod.specs.Parameters.{own_names}
 use Rattle.ef_lowmod.proofs.Lowered.{has_earlier}
-use Rattle.ef_lowmod.proofs.Numbered.{numbered_below, numbered_count, numbered_readable}
 use Rattle.ef_lowmod.proofs.OneClause.{OneClause}
 use Rattle.ef_lowmod.proofs.Parameters.{each_name, names_below, names_bound, parameters_keep}
-use Rattle.ef_lowmod.proofs.Raises.{among_themselves}
 use Rattle.ef_lowmod.proofs.Ready.{each_number, each_ready}
+use Rattle.ef_lowpat.specs.Budgets.{depth_per_level}
 use Rattle.ef_meaning.specs.Lowers.{AreBelow, KeepsBody, KeepsFunction}
 use Rattle.ef_meaning.specs.Named.{bound_names}
 use Rattle.ef_meaning.specs.Source.{by_clauses}
@@ -73,7 +74,7 @@ module _ (all : Texts) (defined : List FunctionName) (n : ℕ) (cs : List Clause
   pub own_weight : all_weight (plain_all (out-Clause c).body.items) ≤ clauses_weight (plain_clauses cs)
   own_weight = let same = ap (λ l. clauses_weight (plain_clauses l)) one.alone in omega arith
 
-  pub own_body : (now : Texts) (es : List Expr) (body : CoreTree) → Extends all now → es ≡ (out-Clause c).body.items → KeepsBody now (map plain es) env [] body → IsLowered now body → IsInScope all defined env body → depth body + 1 ≤ 16 * all_depth (plain_all es) → IsLoweredBody now defined (plain_clauses cs) params body
+  pub own_body : (now : Texts) (es : List Expr) (body : CoreTree) → Extends all now → es ≡ (out-Clause c).body.items → KeepsBody now (map plain es) env [] body → IsLowered now body → IsInScope all defined env body → depth body + 1 ≤ depth_per_level * all_depth (plain_all es) → IsLoweredBody now defined (plain_clauses cs) params body
   own_body now es body later same keeps lowered in_scope shallow =
       let ps = plain_all (out-Clause c).patterns.items in
       let names : env ≡ own_names ps (variables_from 0 n) = one.names ∙ ap (own_names ps) first in

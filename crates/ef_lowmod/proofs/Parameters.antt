@@ -18,8 +18,8 @@ use Rattle.ef_forms.specs.declared.expr.Expr.{Expr}
 use Rattle.ef_forms.specs.Plain.{plain, plain_all, trees}
 use Rattle.ef_forms.specs.Tree.{Tree, Trees, tree, var, any, end, more, clause, no_clauses, no_guard, count}
 use Rattle.ef_forms.specs.Ways.{all_names}
+use Rattle.ef_lower.proofs.Numbered.{numbered_count}
 use Rattle.ef_lowmod.specs.Parameters.{AreParameters, IsParameter, own_name, own_names}
-use Rattle.ef_lowmod.proofs.Numbered.{numbered_count}
 use Rattle.ef_meaning.specs.Value.{Value, values_of, with_some}
 use Rattle.ef_meaning.specs.Exception.{Error, function_clause}
 use Rattle.ef_meaning.specs.End.{Gives, Raises, and_then}

@@ -1,19 +1,16 @@
 -- Clauses that can be lowered, and what they are lowered to.
-use Rattle.std.specs.Prelude.{ℕ, ◌+◌, ◌*◌, ◌≡◌, ◌≤◌, max, codes, List, [], ◌∷◌, ◌++◌, length, map}
-use Rattle.ef_base.specs.declared.name.Name.{Name}
-use Rattle.ef_base.specs.Texts.{Texts, IsNameOf}
+use Rattle.std.specs.Prelude.{ℕ, ◌+◌, ◌*◌, ◌≡◌, ◌≤◌, max, List, [], ◌∷◌, ◌++◌, length, map}
+use Rattle.ef_base.specs.Texts.{Texts}
 use Rattle.ef_core.specs.declared.env.Bind.{Bind}
 use Rattle.ef_core.specs.declared.literal.CoreVar.{CoreVar}
 use Rattle.ef_core.specs.declared.literal.FName.{FName}
 use Rattle.ef_core.specs.declared.lowered.Test.{Test}
 use Rattle.ef_core.specs.Conditions.{NoneTwice}
 use Rattle.ef_core.specs.Depth.{depth, pats_depth}
-use Rattle.ef_core.specs.Everywhere.{Each, PatsHold}
+use Rattle.ef_core.specs.Everywhere.{PatsHold}
 use Rattle.ef_core.specs.Lowered.{IsLowered, lowered}
 use Rattle.ef_core.specs.Plain.{ClauseTree}
-use Rattle.ef_core.specs.Readable.{readable}
-use Rattle.ef_core.specs.Scope.{IsAmong, InScope, SizesInScope, pats_vars}
-use Rattle.ef_core.specs.Tree as c
+use Rattle.ef_core.specs.Scope.{InScope, SizesInScope, pats_vars}
 use Rattle.ef_core.specs.Tree.{CoreTree}
 use Rattle.ef_forms.specs.declared.expr.Clause.{Clause, out-Clause}
 use Rattle.ef_forms.specs.declared.tables.FunctionName.{FunctionName}
@@ -24,7 +21,7 @@ use Rattle.ef_forms.specs.Plain.{plain, plain_all, plain_guard}
 use Rattle.ef_forms.specs.Tree.{Clauses, no_guard}
 use Rattle.ef_forms.specs.Ways.{all_names, body_faults, clauses_faults, no_names}
 use Rattle.ef_lower.specs.Scope.{HasFunctions}
-use Rattle.ef_meaning.specs.Cases.{FailsFunction, last_clause}
+use Rattle.ef_lowpat.specs.Budgets.{depth_per_level}
 use Rattle.ef_meaning.specs.Lowers.{KeepsBody, KeepsFunction}
 use Rattle.ef_meaning.specs.Patterns.{IsGuard, KeepsPatterns}
 use Rattle.ef_meaning.specs.Source.{by_clauses}
@@ -66,48 +63,18 @@ pub record IsLoweredClause (all : Texts) (defined : List FunctionName) (c : Clau
   pub body : IsLowered all made.body
   pub in_scope : (vs : List CoreVar) (fs : List FName) → HasFunctions all defined fs
       → SizesInScope vs fs made.pats × InScope (pats_vars made.pats ++ vs) fs made.guard × InScope (pats_vars made.pats ++ vs) fs made.body
-  pub shallow : max (pats_depth made.pats) (max (depth made.guard) (depth made.body)) + 1 ≤ 16 * max (all_depth (plain_all (out-Clause c).patterns.items)) (all_depth (plain_all (out-Clause c).body.items))
+  pub shallow : max (pats_depth made.pats) (max (depth made.guard) (depth made.body)) + 1 ≤ depth_per_level * max (all_depth (plain_all (out-Clause c).patterns.items)) (all_depth (plain_all (out-Clause c).body.items))
 
 abbrev pub AreLoweredClauses : Texts → List FunctionName → List Clause → List ClauseTree → Type 0
 AreLoweredClauses all defined [] [] = Unit {0}
 AreLoweredClauses all defined (c ∷ cs) (m ∷ ms) = IsLoweredClause all defined c m × AreLoweredClauses all defined cs ms
 AreLoweredClauses all defined _ _ = ⊥
 
--- ---- the last clause
-
--- an error with this reason
-pub record IsFailure (all : Texts) (reason e : CoreTree) : Type 0 where
-  pub name : Name
-  pub word : IsNameOf all name (codes "match_fail")
-  pub is : e ≡ c.primop name (c.more reason c.end)
-
--- an error `function_clause` for the values of these variables, which a text can say
-pub record RaisesClause (all : Texts) (vars : List CoreVar) (e : CoreTree) : Type 0 where
-  pub fails : FailsFunction all vars e
-  pub lowered : Each (readable all).variable vars → IsLowered all e
-  pub in_scope : (us : List CoreVar) (fs : List FName) → Each (IsAmong us) vars → InScope us fs e
-  pub shallow : depth e ≤ 3
-
--- a clause for so many values, whatever they are, that raises it
-pub record IsLastClause (all : Texts) (count : ℕ) (made : ClauseTree) : Type 0 where
-  pub guard : CoreTree
-  pub vars : List CoreVar
-  pub body : CoreTree
-  pub is : made ≡ last_clause guard vars body
-  pub number : length vars ≡ count
-  pub distinct : NoneTwice vars
-  pub in_range : Each (readable all).variable vars
-  pub always : IsGuard all [] guard
-  pub lowered : IsLowered all guard
-  pub in_scope : (us : List CoreVar) (fs : List FName) → InScope us fs guard
-  pub shallow : depth guard ≤ 3
-  pub raises : RaisesClause all vars body
-
 -- ---- the body of a function
 
--- behind its parameters it keeps the clauses, and a text can say it, at most 16 deep for each level of the source
+-- behind its parameters it keeps the clauses, and a text can say it, no deeper than the levels of the source allow
 pub record IsLoweredBody (all : Texts) (defined : List FunctionName) (cs : Clauses) (params : List CoreVar) (body : CoreTree) : Type 0 where
   pub keeps : KeepsFunction all (by_clauses cs []) params body
   pub lowered : IsLowered all body
   pub in_scope : (fs : List FName) → HasFunctions all defined fs → InScope params fs body
-  pub shallow : depth body ≤ 16 * clauses_depth cs
+  pub shallow : depth body ≤ depth_per_level * clauses_depth cs

@@ -18,6 +18,7 @@ use Rattle.ef_forms.specs.Ways.{function_faults}
 use Rattle.ef_forms.specs.Weight.{function_weight}
 use Rattle.ef_lower.specs.Ready.{lower_words}
 use Rattle.ef_lowmod.specs.Clauses.{AreReadyClauses}
+use Rattle.ef_lowpat.specs.Budgets.{depth_per_level, variables_per_function}
 use Rattle.ef_lowpat.specs.Guards.{HoldsWords}
 use Rattle.ef_meaning.specs.Lowers.{KeepDefinitions}
 
@@ -35,9 +36,9 @@ IsWhole f = AreSome f.clauses
 abbrev pub IsNarrowFunction : FunctionTree → Type 0
 IsNarrowFunction f = AreNarrowClauses f.clauses
 
--- the variables are enough for the function, which needs at most 1,000 for each unit of its weight
+-- the variables are enough for the function
 abbrev pub IsLight : FunctionTree → Type 0
-IsLight f = 1000 * function_weight f ≤ most_variables
+IsLight f = variables_per_function * function_weight f ≤ most_variables
 
 abbrev pub HasNoFault : Texts → FunctionTree → Type 0
 HasNoFault all f = function_faults all f ≡ []
@@ -52,14 +53,14 @@ abbrev pub fname_of : FunctionTree → FName
 fname_of f = record { name = f.name; arity = f.arity }
 
 -- a function of this name and arity, whose parameters are the first variables, and whose body a text can say: it is in
--- scope where these functions are, and at most 16 deep for each level of the source
+-- scope where these functions are, and no deeper than the levels of the source allow
 pub record IsLoweredFunction (all : Texts) (fs : List FName) (f : FunctionTree) (d : DefTree) : Type 0 where
   pub name : d.name ≡ fname_of f
   pub parameters : d.params ≡ variables_from 0 f.arity
   pub matches : Matches d.name d.params
   pub body : IsLowered all d.body
   pub in_scope : InScope d.params fs d.body
-  pub shallow : depth d.body ≤ 16 * function_depth f
+  pub shallow : depth d.body ≤ depth_per_level * function_depth f
   pub of_table : DefOf all d
 
 -- each of the one is lowered to that of the other

@@ -14,14 +14,15 @@ ghost use Rattle.ef_forms.specs.Weight.{all_weight, clauses_weight};
 ghost use Rattle.ef_lower.specs.Matches.{IsFrontOf};
 ghost use Rattle.ef_lowmod.specs.Clauses.{AreLoweredClauses, AreReadyClauses, IsLoweredBody, IsLoweredClause, IsReadyClause};
 ghost use Rattle.ef_lowmod.specs.Function.{HasWords};
+ghost use Rattle.ef_lowpat.specs.Budgets.{variables_per_case, variables_per_clause, variables_per_pattern};
 ghost use Rattle.ef_meaning.specs.Cases as cases;
 
-use crate::last::last_clause;
-use crate::variables::push_values;
 use ef_base::{Names, NoMemory};
 use ef_core::{Bind, CoreClause, CoreExpr, CoreVar, Env, Fresh};
 use ef_forms::{Clause, Tables};
-use ef_lower::{BindingFront, Front, binding_front, closed_body, together};
+use ef_lower::{
+    BindingFront, Front, binding_front, closed_body, last_clause, push_values, together,
+};
 use std::alloc::Global;
 
 /// A case of the parameters, which are the variables that were drawn so far. Where no clause is chosen it raises
@@ -38,15 +39,15 @@ pub fn case(
     requires some { AreSome (source.plain_clauses clauses.now) }
     requires ready { (all : Texts) → Extends names.old all → AreReadyClauses all tables.now.functions.items fresh.old (source.plain_clauses clauses.now) }
     requires params { params.now ≡ variables_from 0 fresh.old }
-    requires enough { fresh.old + 999 * clauses_weight (source.plain_clauses clauses.now) ≤ most_variables }
+    requires enough { fresh.old + variables_per_case * clauses_weight (source.plain_clauses clauses.now) ≤ most_variables }
     ensures kept { Extends names.old names.new }
     ensures differ { AllDiffer names.old → AllDiffer names.new }
     ensures utf8 { AllUtf8 names.old → AllUtf8 names.new }
     ensures lowered { IfOk result (λ e. IsLoweredBody names.new tables.now.functions.items (source.plain_clauses clauses.now) params.now (plain e)) }
-    ensures drawn { IfOk result (λ e. DrawsAtMost (999 * clauses_weight (source.plain_clauses clauses.now)) fresh.old fresh.new) }
+    ensures drawn { IfOk result (λ e. DrawsAtMost (variables_per_case * clauses_weight (source.plain_clauses clauses.now)) fresh.old fresh.new) }
 {
     let mut made = lower_clauses(alloc, names, tables, fresh, clauses)?;
-    let last = last_clause(alloc, names, fresh, params.len())?;
+    let last = last_clause(alloc, names, fresh, "function_clause", params.len())?;
     made.push(last)?;
     Ok(case_of(alloc, params, made)?)
 }
@@ -72,12 +73,12 @@ fn lower_clauses(
 ) -> Result<Vec<CoreClause>, NoMemory>
     requires words { HasWords names.old }
     requires ready { (all : Texts) → Extends names.old all → Each (IsReadyClause all tables.now.functions.items) clauses.now }
-    requires enough { fresh.old + 600 * clauses_weight (source.plain_clauses clauses.now) ≤ most_variables }
+    requires enough { fresh.old + variables_per_clause * clauses_weight (source.plain_clauses clauses.now) ≤ most_variables }
     ensures kept { Extends names.old names.new }
     ensures differ { AllDiffer names.old → AllDiffer names.new }
     ensures utf8 { AllUtf8 names.old → AllUtf8 names.new }
     ensures lowered { IfOk result (λ cs. AreLoweredClauses names.new tables.now.functions.items clauses.now (map plain_clause cs.items)) }
-    ensures drawn { IfOk result (λ cs. DrawsAtMost (600 * clauses_weight (source.plain_clauses clauses.now)) fresh.old fresh.new) }
+    ensures drawn { IfOk result (λ cs. DrawsAtMost (variables_per_clause * clauses_weight (source.plain_clauses clauses.now)) fresh.old fresh.new) }
 {
     let mut made = Vec::with_capacity(alloc, clauses.len() + 1)?;
     for clause in clauses {
@@ -96,12 +97,12 @@ fn lower_clause(
 ) -> Result<CoreClause, NoMemory>
     requires words { HasWords names.old }
     requires ready { IsReadyClause names.old tables.now.functions.items clause.now }
-    requires enough { fresh.old + 600 * (all_weight (source.plain_all (out-Clause clause.now).patterns.items) + all_weight (source.plain_all (out-Clause clause.now).body.items)) ≤ most_variables }
+    requires enough { fresh.old + variables_per_clause * (all_weight (source.plain_all (out-Clause clause.now).patterns.items) + all_weight (source.plain_all (out-Clause clause.now).body.items)) ≤ most_variables }
     ensures kept { Extends names.old names.new }
     ensures differ { AllDiffer names.old → AllDiffer names.new }
     ensures utf8 { AllUtf8 names.old → AllUtf8 names.new }
     ensures lowered { IfOk result (λ c. IsLoweredClause names.new tables.now.functions.items clause.now (plain_clause c)) }
-    ensures drawn { IfOk result (λ c. DrawsAtMost (600 * (all_weight (source.plain_all (out-Clause clause.now).patterns.items) + all_weight (source.plain_all (out-Clause clause.now).body.items))) fresh.old fresh.new) }
+    ensures drawn { IfOk result (λ c. DrawsAtMost (variables_per_clause * (all_weight (source.plain_all (out-Clause clause.now).patterns.items) + all_weight (source.plain_all (out-Clause clause.now).body.items))) fresh.old fresh.new) }
 {
     let made = head(alloc, names, fresh, clause)?;
     let BindingFront { front, binds } = made;
@@ -121,7 +122,7 @@ fn head(
     requires words { HasWords names.now }
     requires patterns { ArePatterns (source.plain_all (out-Clause clause.now).patterns.items) }
     requires named { TreesOf names.now (source.plain_all (out-Clause clause.now).patterns.items) }
-    requires enough { fresh.old + 50 * all_weight (source.plain_all (out-Clause clause.now).patterns.items) + 2 ≤ most_variables }
+    requires enough { fresh.old + variables_per_pattern * all_weight (source.plain_all (out-Clause clause.now).patterns.items) + 2 ≤ most_variables }
     ensures { IfOk result (λ f. IsFrontOf names.now (source.plain_all (out-Clause clause.now).patterns.items) fresh.old [] fresh.new (plain_pats f.front.pats.items) (plain f.front.guard) f.binds.items) }
 {
     let none = Env::new(alloc);

@@ -14,14 +14,14 @@ ghost use Rattle.ef_lower.specs.Scope.{HasFunctions};
 ghost use Rattle.ef_lowmod.specs.Clauses.{AreReadyClauses, IsLoweredBody};
 ghost use Rattle.ef_lowmod.specs.Function.{HasWords, IsLoweredFunction, IsReadyFunction};
 ghost use Rattle.ef_lowmod.specs.Parameters as p;
+ghost use Rattle.ef_lowpat.specs.Budgets.{variables_per_case};
 ghost use Rattle.ef_meaning.specs.Lowers.{KeepsDefinition};
 
 use crate::clauses::case;
-use crate::variables::variables;
 use ef_base::{Names, NoMemory};
 use ef_core::{CoreDef, CoreExpr, CoreVar, Env, FName, Fresh};
 use ef_forms::{Clause, Expr, Function, Node, Tables};
-use ef_lower::closed_body;
+use ef_lower::{closed_body, draw_variables};
 use std::alloc::Global;
 
 /// Lowers a function: one clause of different variables and `_` to its body, and others to a case of the parameters.
@@ -40,7 +40,7 @@ pub fn lower_function(
     ensures means { IfOk result (λ d. KeepsDefinition names.new (plain_function function.now) (plain_def d)) }
 {
     let mut fresh = Fresh::new();
-    let params = variables(alloc, &mut fresh, function.arity as usize)?;
+    let params = draw_variables(alloc, &mut fresh, function.arity as usize)?;
     let body = body(alloc, names, tables, &mut fresh, &function.clauses, &params)?;
     Ok(CoreDef {
         name: FName {
@@ -65,12 +65,12 @@ fn body(
     requires some { AreSome (plain_clauses clauses.now) }
     requires ready { (all : Texts) → Extends names.old all → AreReadyClauses all tables.now.functions.items fresh.old (plain_clauses clauses.now) }
     requires params { params.now ≡ variables_from 0 fresh.old }
-    requires enough { fresh.old + 999 * clauses_weight (plain_clauses clauses.now) ≤ most_variables }
+    requires enough { fresh.old + variables_per_case * clauses_weight (plain_clauses clauses.now) ≤ most_variables }
     ensures kept { Extends names.old names.new }
     ensures differ { AllDiffer names.old → AllDiffer names.new }
     ensures utf8 { AllUtf8 names.old → AllUtf8 names.new }
     ensures lowered { IfOk result (λ e. IsLoweredBody names.new tables.now.functions.items (plain_clauses clauses.now) params.now (plain e)) }
-    ensures drawn { IfOk result (λ e. DrawsAtMost (999 * clauses_weight (plain_clauses clauses.now)) fresh.old fresh.new) }
+    ensures drawn { IfOk result (λ e. DrawsAtMost (variables_per_case * clauses_weight (plain_clauses clauses.now)) fresh.old fresh.new) }
 {
     if let Some(env) = own_names(alloc, clauses, params)? {
         return Ok(closed_body(alloc, names, tables, fresh, &clauses[0].body, env)?);

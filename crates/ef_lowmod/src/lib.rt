@@ -5,8 +5,6 @@ mod clauses;
 mod exports;
 mod function;
 mod info;
-mod last;
 mod module;
-mod variables;
 
 pub use module::lower;

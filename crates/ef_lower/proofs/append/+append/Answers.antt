@@ -17,6 +17,7 @@ use Rattle.ef_forms.specs.Weight.{all_weight, clauses_weight, weight}
 use Rattle.ef_forms.proofs.Plain.{counted, plain_atom, plain_call, plain_case, plain_int, plain_list, plain_list_to, plain_match, plain_remote, plain_tuple, plain_var}
 use Rattle.ef_forms.proofs.Takes.{item_falls, take_next, take_weight, take_within}
 use Rattle.ef_forms.proofs.expr.Expr.TheLaws.{the_size}
+use Rattle.ef_lowpat.specs.Budgets.{variables_per_unit}
 use Rattle.ef_meaning.specs.Lowers.{AreBelow}
 use Rattle.ef_lower.specs.Arms.{AreArms, ArmsCanEnd, IsArm, IsFront, MakesCase, plain_arm}
 use Rattle.ef_lower.specs.Ready.{AreReady, IsReadableBind, IsReadyClause, bound_names}
@@ -314,7 +315,7 @@ arms-loop-clause-preserved t c =
 
 pub arm-front_of-requires-clause-enough : goal.arm-front_of-requires-clause-enough
 arm-front_of-requires-clause-enough t c =
-    let enough = subst (λ k. k + 500 * clauses_weight (plain_clauses (c.args.clause.now ∷ [])) ≤ most_variables) (sym c.copy-fresh.ensures) c.requires.place.enough in
+    let enough = subst (λ k. k + variables_per_unit * clauses_weight (plain_clauses (c.args.clause.now ∷ [])) ≤ most_variables) (sym c.copy-fresh.ensures) c.requires.place.enough in
     front_enough _ _ _ _ (plain_clause c.args.clause.now) c.requires.ready enough
 
 pub arm-append_body-requires : goal.arm-append_body-requires

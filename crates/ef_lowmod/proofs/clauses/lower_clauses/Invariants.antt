@@ -5,6 +5,7 @@ use Rattle.ef_forms.specs.Plain.{plain_clauses}
 use Rattle.ef_forms.specs.Weight.{clauses_weight}
 use Rattle.ef_lowmod.specs.Clauses.{AreLoweredClauses}
 use Rattle.ef_lowmod.proofs.clauses.lower_clauses.Given as goal
+use Rattle.ef_lowpat.specs.Budgets.{variables_per_clause}
 
 abbrev pub invariant-loop-clause : goal.invariant-loop-clause
 invariant-loop-clause l = record {
@@ -13,5 +14,5 @@ invariant-loop-clause l = record {
   utf8 : AllUtf8 l.fn.names → AllUtf8 l.names;
   lowered : AreLoweredClauses l.names l.tables.functions.items (take l.clause-index l.clauses) (map plain_clause l.made.items);
   drawn : l.fn.fresh ≤ l.fresh;
-  left : l.fresh + 600 * clauses_weight (plain_clauses (drop l.clause-index l.clauses)) ≤ l.fn.fresh + 600 * clauses_weight (plain_clauses l.clauses);
+  left : l.fresh + variables_per_clause * clauses_weight (plain_clauses (drop l.clause-index l.clauses)) ≤ l.fn.fresh + variables_per_clause * clauses_weight (plain_clauses l.clauses);
 }

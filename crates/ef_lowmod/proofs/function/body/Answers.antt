@@ -6,7 +6,7 @@ use Rattle.ef_forms.specs.Built.{AreBuilt, AreNarrow}
 use Rattle.ef_forms.specs.OfTable.{TreesOf}
 use Rattle.ef_forms.specs.Plain.{plain_all}
 use Rattle.ef_forms.specs.Ways.{body_faults}
-use Rattle.ef_lowmod.proofs.Numbered.{numbered_count}
+use Rattle.ef_lower.proofs.Numbered.{numbered_count}
 use Rattle.ef_lowmod.proofs.OneClause.{found_clause}
 use Rattle.ef_lowmod.proofs.OwnNames.{own_below, own_body, own_faults, own_readable, own_ready}
 use Rattle.ef_lowmod.proofs.Ready.{each_number}

@@ -7,16 +7,16 @@ use Rattle.ef_core.specs.OfTable.{VarOf}
 use Rattle.ef_core.specs.Plain.{plain}
 use Rattle.ef_core.specs.Readable.{readable}
 use Rattle.ef_forms.specs.Plain.{plain_clauses}
+use Rattle.ef_lower.proofs.Numbered.{numbered_count, numbered_readable}
 use Rattle.ef_lowmod.specs.Clauses.{AreReadyClauses, IsLoweredBody}
 use Rattle.ef_lowmod.proofs.Lowered.{lowered_of_table}
-use Rattle.ef_lowmod.proofs.Numbered.{numbered_count, numbered_readable}
 use Rattle.ef_lowmod.proofs.Ready.{sizes}
 use Rattle.ef_lowmod.proofs.function.lower_function.Goals as goal
 
 pub body-requires-clause-ready : goal.body-requires-clause-ready
 body-requires-clause-ready c = λ all later.
     let drawn = c.in_ok-params.ensures.drawn ∙ ap (λ n. n + c.args.function.now.arity) c.new-fresh.ensures in
-    let number : c.args.function.now.arity ≡ c.variables.new.fresh = omega arith in
+    let number : c.args.function.now.arity ≡ c.draw_variables.new.fresh = omega arith in
     subst (λ n. AreReadyClauses all c.args.tables.now.functions.items n (plain_clauses c.deref.result.now)) number
     (subst (λ cs. AreReadyClauses all c.args.tables.now.functions.items c.args.function.now.arity (plain_clauses cs)) (sym c.deref.ensures.value) (c.requires.ready all later).clauses)
 

@@ -1,7 +1,7 @@
 use Rattle.std.proofs.Common.{arith, ap, ◌∙◌}
 use Rattle.ef_core.specs.declared.literal.CoreVar.TheVariants.{Numbered}
-use Rattle.ef_lowmod.proofs.Numbered.{one_more_variable}
-use Rattle.ef_lowmod.proofs.variables.variables.Goals as goal
+use Rattle.ef_lower.proofs.Numbered.{one_more_variable}
+use Rattle.ef_lower.proofs.values.draw_variables.Goals as goal
 
 pub draw-requires : goal.draw-requires
 draw-requires c = let drawn = c.loop.invariant.0 in omega (arith, c.requires)

@@ -69,7 +69,14 @@ fn finish_arm(alloc: Global, binds: &[Bind], arm: Arm) -> Result<CoreClause, NoM
     requires enough { (plain_arm arm).drawn < most_variables }
     ensures { IfOk result (λ c. FinishesArm binds.now (plain_arm arm) (plain_clause c)) }
 {
-    let own = own_variables(alloc, binds, &arm.binds)?;
+    let own = match own_variables(alloc, binds, &arm.binds) {
+        Ok(own) => own,
+        Err(error) => {
+            // By a call: dropped in place, each variant of each part would be a step of its own in the proof.
+            drop(arm);
+            return Err(error);
+        }
+    };
     let Arm {
         front,
         steps,
@@ -77,9 +84,16 @@ fn finish_arm(alloc: Global, binds: &[Bind], arm: Arm) -> Result<CoreClause, NoM
         mut fresh,
         ..
     } = arm;
-    let Front { pats, guard } = front;
-    let body = giving(alloc, &own, &mut fresh, steps, value)?;
-    Ok(CoreClause { pats, guard, body })
+    match giving(alloc, &own, &mut fresh, steps, value) {
+        Ok(body) => {
+            let Front { pats, guard } = front;
+            Ok(CoreClause { pats, guard, body })
+        }
+        Err(error) => {
+            drop(front);
+            Err(error)
+        }
+    }
 }
 
 // The same names, with their variables in the environment.

@@ -33,11 +33,28 @@ pub fn with_names(
     ensures named { IfOk result (λ r. r.exports.items ≡ cases.names_of (drop start env.now)) }
     ensures differ { IfOk result (λ r. NamesDiffer env.now) }
 {
+    match named_from(alloc, env, start) {
+        Ok((binds, exports)) => {
+            let core = giving(alloc, &binds, fresh, steps, value)?;
+            Ok(LoweredExpr { core, exports })
+        }
+        Err(error) => {
+            // By a call: dropped in place, each variant of each part would be a step of its own in the proof.
+            drop(value);
+            Err(error)
+        }
+    }
+}
+
+// What is bound from a place on, and the names alone.
+fn named_from(alloc: Global, env: &Env, start: usize) -> Result<(Vec<Bind>, Vec<Name>), NoMemory>
+    ensures binds { IfOk result (λ r. r.0.items ≡ drop start env.now) }
+    ensures named { IfOk result (λ r. r.1.items ≡ cases.names_of (drop start env.now)) }
+    ensures differ { IfOk result (λ r. NamesDiffer env.now) }
+{
     let binds = env.binds_from(alloc, start)?;
-    Ok(LoweredExpr {
-        core: giving(alloc, &binds, fresh, steps, value)?,
-        exports: names_of(alloc, &binds)?,
-    })
+    let names = names_of(alloc, &binds)?;
+    Ok((binds, names))
 }
 
 /// The steps, then the value and those of these names.

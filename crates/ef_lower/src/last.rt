@@ -1,7 +1,7 @@
 // The clause for all values that no other clause takes.
 ghost use Rattle.std.specs.Prelude.{◌≡◌, ◌+◌, ◌≤◌, [], ◌∷◌, IfOk, length, map, min};
 ghost use Rattle.ef_core.specs.declared.literal.CoreVar.TheVariants.{Numbered};
-ghost use Rattle.ef_core.specs.Fresh.{most_variables};
+ghost use Rattle.ef_core.specs.Fresh.{most_variables, variables_from};
 ghost use Rattle.ef_core.specs.Plain as core;
 ghost use Rattle.ef_core.specs.Plain.{plain_clause, plain_pat, plain_step};
 ghost use Rattle.ef_core.specs.Tree as c;
@@ -30,10 +30,35 @@ pub fn last_clause(
     ensures { IfOk result (λ c. IsLastClause names.now why.now count fresh.old fresh.new (plain_clause c)) }
 {
     let guard = guard(alloc, names, fresh, &[])?;
+    match taking(alloc, names, fresh, why, count) {
+        Ok((pats, body)) => Ok(CoreClause { pats, guard, body }),
+        Err(error) => {
+            // By a call: dropped in place, each variant of each part would be a step of its own in the proof.
+            drop(guard);
+            Err(error)
+        }
+    }
+}
+
+// The patterns of so many variables, and the error with this word and their values.
+fn taking(
+    alloc: Global,
+    names: &Names,
+    fresh: &mut Fresh,
+    why: &str,
+    count: usize,
+) -> Result<(Vec<CorePat>, CoreExpr), NoMemory>
+    requires words { HoldsWords names.now lower_words }
+    requires why { HoldsWord names.now why.now }
+    requires enough { fresh.old + count + 1 ≤ most_variables }
+    ensures pats { IfOk result (λ r. map plain_pat r.0.items ≡ map (λ y. c.pat_var y) (variables_from fresh.old count)) }
+    ensures fails { IfOk result (λ r. FailsWith names.now why.now (variables_from fresh.old count) (Numbered (fresh.old + count)) (core.plain r.1)) }
+    ensures drawn { IfOk result (λ r. fresh.new ≡ fresh.old + count + min count 1) }
+{
     let vars = draw_variables(alloc, fresh, count)?;
     let pats = patterns(alloc, &vars)?;
     let body = error(alloc, names, fresh, why, &vars)?;
-    Ok(CoreClause { pats, guard, body })
+    Ok((pats, body))
 }
 
 // Variables as patterns.
@@ -69,9 +94,9 @@ fn error(
         return Ok(raise(alloc, fail, reason)?);
     }
     let var = draw(fresh);
-    let step = reason(alloc, var, why, vars)?;
+    let steps = vec![in alloc; reason(alloc, var, why, vars)?]?;
     let raised = raise(alloc, fail, CoreExpr::Var(var))?;
-    Ok(behind(alloc, step, raised)?)
+    Ok(behind(alloc, steps, raised)?)
 }
 
 // The tuple of a word alone, which is a literal.
@@ -105,13 +130,11 @@ fn raise(alloc: Global, fail: Name, reason: CoreExpr) -> Result<CoreExpr, NoMemo
     Ok(CoreExpr::Primop { name: fail, args })
 }
 
-// The expression behind the step.
+// The expression behind the steps.
 #[tactic(auto, using(ef_core::specs::Laws::plain_laws))]
-fn behind(alloc: Global, step: LetStep, body: CoreExpr) -> Result<CoreExpr, NoMemory>
-    ensures { IfOk result (λ e. core.plain e ≡ c.lets (core.steps (plain_step step ∷ [])) (core.plain body)) }
+fn behind(alloc: Global, steps: Vec<LetStep>, body: CoreExpr) -> Result<CoreExpr, NoMemory>
+    ensures { IfOk result (λ e. core.plain e ≡ c.lets (core.plain_steps steps.items) (core.plain body)) }
 {
-    Ok(CoreExpr::Lets {
-        steps: vec![in alloc; step]?,
-        body: Box::new(alloc, body)?,
-    })
+    let body = Box::new(alloc, body)?;
+    Ok(CoreExpr::Lets { steps, body })
 }

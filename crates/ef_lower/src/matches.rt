@@ -106,11 +106,25 @@ fn match_step(
     ensures { IfOk result (λ s. IsMatchStep names.now (plain pat.now) var fresh.old env.old fresh.new env.new (plain_step s)) }
 {
     let made = binding_front(alloc, names, from_ref(pat), env, fresh)?;
-    let last = last_clause(alloc, names, fresh, "badmatch", 1)?;
+    let last = match last_clause(alloc, names, fresh, "badmatch", 1) {
+        Ok(last) => last,
+        Err(error) => {
+            // By a call: dropped in place, each variant of each part would be a step of its own in the proof.
+            drop(made);
+            return Err(error);
+        }
+    };
     let mut vars = Vec::new(alloc);
-    rename(&mut vars, &made.binds, env, fresh)?;
-    let value = match_case(alloc, var, made, last)?;
-    Ok(LetStep { vars, value })
+    match rename(&mut vars, &made.binds, env, fresh) {
+        Ok(()) => {
+            let value = match_case(alloc, var, made, last)?;
+            Ok(LetStep { vars, value })
+        }
+        Err(error) => {
+            drop((made, last));
+            Err(error)
+        }
+    }
 }
 
 // The values of the names, where the front takes the variable's value; else the last clause.

@@ -1,25 +1,13 @@
-use Rattle.std.proofs.Common.{ap, ◌∙◌, sym, subst, map, arith}
-use Rattle.ef_core.specs.Everywhere.{Each}
+use Rattle.std.proofs.Common.{ap, ◌∙◌, sym, subst, map}
 use Rattle.ef_core.specs.Laws.{plain_case}
 use Rattle.ef_core.specs.Plain as core
 use Rattle.ef_core.specs.Tree as c'
-use Rattle.ef_lower.specs.Arms.{BindsAll, FinishesAll, plain_arm, shared}
-use Rattle.ef_lower.proofs.Chosen.{chosen}
-use Rattle.ef_lower.proofs.LoweredArms.{each_map}
-use Rattle.ef_lower.proofs.Shared.{shared_bound}
+use Rattle.ef_lower.specs.Arms.{IsCaseOf, plain_arm}
 use Rattle.ef_lower.proofs.cases.choice_of.Goals as goal
 
-pub finish_arms-requires-clause-bound : goal.finish_arms-requires-clause-bound
-finish_arms-requires-clause-bound c =
-    subst (λ l. Each (λ a. BindsAll (plain_arm a).binds l) c.args.arms.items) (sym c.requires.shared)
-    (each_map plain_arm (λ a. BindsAll a.binds (shared (map plain_arm c.args.arms.items))) c.args.arms.items (shared_bound (map plain_arm c.args.arms.items)))
-
-pub returns : goal.returns
-returns c =
+pub returns-in_ok-arg-in-Ok : goal.returns-in_ok-arg-in-Ok
+returns-in_ok-arg-in-Ok c =
     let arms = map plain_arm c.args.arms.items in
-    let made = map core.plain_clause c.in_ok-clauses.clauses.items in
-    let lasts = c.in_ok-last.ensures.enough in
-    let room = c.requires.enough in
-    chosen c.in_ok-last.last c.in_ok-clauses.clauses.items c.push.new.self.items c.in_ok-last.ensures (omega arith)
-    (subst (λ l. FinishesAll l arms made) c.requires.shared c.in_ok-clauses.ensures) c.in_ok-push.ensures.items
-    (plain_case c.in_ok-arg.arg c.push.new.self ∙ ap (λ e. c'.case_of (core.plain e) (core.plain_clauses c.push.new.self.items)) c.in_ok-arg.ensures.ok)
+    let clauses = c.in-Ok.clauses in
+    let is = plain_case c.in_ok-arg-in-Ok.arg clauses ∙ ap (λ e. c'.case_of (core.plain e) (core.plain_clauses clauses.items)) c.in_ok-arg-in-Ok.ensures.ok in
+    subst (IsCaseOf c.args.names.now (core.plain c.args.arg) arms c.args.fresh.now c.clauses_of.new.fresh) (sym is) (c.in-Ok.ensures (core.plain c.args.arg))

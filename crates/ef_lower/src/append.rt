@@ -179,15 +179,15 @@ fn arm(
     let mut fresh = fresh.copy();
     let front = front_of(alloc, names, clause, env, &mut fresh)?;
     let mut steps = Vec::new(alloc);
-    let value = append_body(
-        alloc,
-        names,
-        tables,
-        &clause.body,
-        env,
-        &mut fresh,
-        &mut steps,
-    )?;
+    let body = &clause.body;
+    let value = match append_body(alloc, names, tables, body, env, &mut fresh, &mut steps) {
+        Ok(value) => value,
+        Err(error) => {
+            // By a call: dropped in place, each variant of each part would be a step of its own in the proof.
+            drop(front);
+            return Err(error);
+        }
+    };
     let binds = env.split_off(start)?;
     Ok(Arm {
         front,

@@ -136,9 +136,16 @@ fn match_case(
 ) -> Result<CoreExpr, NoMemory>
     ensures { IfOk result (λ e. core.plain e ≡ c.case_of (c.var var) (clauses (match_clause (plain_pats made.front.pats.items) (core.plain made.front.guard) made.binds.items ∷ plain_clause last ∷ []))) }
 {
-    let first = names_clause(alloc, made)?;
-    let clauses = both(alloc, first, last)?;
-    Ok(over_variable(alloc, var, clauses)?)
+    match names_clause(alloc, made) {
+        Ok(first) => {
+            let clauses = both(alloc, first, last)?;
+            Ok(over_variable(alloc, var, clauses)?)
+        }
+        Err(error) => {
+            drop(last);
+            Err(error)
+        }
+    }
 }
 
 // A clause that gives the values of the names.

@@ -329,15 +329,15 @@ arm-append_body-requires t c =
 pub arm-split_off-requires : goal.arm-split_off-requires
 arm-split_off-requires t c =
     let front = subst (λ k. IsFront c.args.names.now (plain_clause c.args.clause.now) k c.args.env.now c.front_of.new.fresh c.front_of.new.env (core.plain_pats c.in_ok-front.front.pats.items) (core.plain c.in_ok-front.front.guard)) c.copy-fresh.ensures c.in_ok-front.ensures in
-    start_within _ _ _ _ (plain_clause c.args.clause.now) c.requires.ready _ _ _ _ front (map plain c.deref.result.now) (ap (map plain) c.deref.ensures.value) _ _ (ap (map core.plain_step) c.new-steps.ensures.items) _ _ _ c.in_ok-value.ensures _ c.len-start.ensures
+    start_within _ _ _ _ (plain_clause c.args.clause.now) c.requires.ready _ _ _ _ front (map plain c.deref.result.now) (ap (map plain) c.deref.ensures.value) _ _ (ap (map core.plain_step) c.new-steps.ensures.items) _ _ _ c.in-Ok.ensures _ c.len-start.ensures
 
 pub arm-returns-clause-same : goal.arm-returns-clause-same
 arm-returns-clause-same t c =
     let front = subst (λ k. IsFront c.args.names.now (plain_clause c.args.clause.now) k c.args.env.now c.front_of.new.fresh c.front_of.new.env (core.plain_pats c.in_ok-front.front.pats.items) (core.plain c.in_ok-front.front.guard)) c.copy-fresh.ensures c.in_ok-front.ensures in
     c.in_ok-binds.ensures.kept
-    ∙ front_is _ _ _ _ (plain_clause c.args.clause.now) c.requires.ready _ _ _ _ front (map plain c.deref.result.now) (ap (map plain) c.deref.ensures.value) _ _ (ap (map core.plain_step) c.new-steps.ensures.items) _ _ _ c.in_ok-value.ensures _ c.len-start.ensures
+    ∙ front_is _ _ _ _ (plain_clause c.args.clause.now) c.requires.ready _ _ _ _ front (map plain c.deref.result.now) (ap (map plain) c.deref.ensures.value) _ _ (ap (map core.plain_step) c.new-steps.ensures.items) _ _ _ c.in-Ok.ensures _ c.len-start.ensures
 
 pub arm-returns-clause-arm : goal.arm-returns-clause-arm
 arm-returns-clause-arm t c =
     let front = subst (λ k. IsFront c.args.names.now (plain_clause c.args.clause.now) k c.args.env.now c.front_of.new.fresh c.front_of.new.env (core.plain_pats c.in_ok-front.front.pats.items) (core.plain c.in_ok-front.front.guard)) c.copy-fresh.ensures c.in_ok-front.ensures in
-    one_arm _ _ _ _ (plain_clause c.args.clause.now) c.requires.ready _ _ _ _ front (map plain c.deref.result.now) (ap (map plain) c.deref.ensures.value) _ _ (ap (map core.plain_step) c.new-steps.ensures.items) _ _ _ c.in_ok-value.ensures _ c.len-start.ensures c.in_ok-binds.ensures.all_differ _ c.in_ok-binds.ensures.tail
+    one_arm _ _ _ _ (plain_clause c.args.clause.now) c.requires.ready _ _ _ _ front (map plain c.deref.result.now) (ap (map plain) c.deref.ensures.value) _ _ (ap (map core.plain_step) c.new-steps.ensures.items) _ _ _ c.in-Ok.ensures _ c.len-start.ensures c.in_ok-binds.ensures.all_differ _ c.in_ok-binds.ensures.tail

@@ -1,6 +1,7 @@
 #!/usr/bin/env bash
 # Makes modules of seven shapes in three sizes, compiles each with the proved program, and prints the size, the time,
-# the bytes a second and the peak memory. The last two shapes have very many faults, found out of their order. Words: a folder for the modules (a temporary one by default).
+# the bytes a second and the peak memory. The last two shapes have very many faults, found out of their order. Words: a
+# folder for the modules (a temporary one by default).
 set -eu
 top=$(dirname "$(dirname "$(readlink -f "$0")")")
 program=$top/crates/erlfront/out/erlfront

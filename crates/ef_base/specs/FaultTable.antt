@@ -71,6 +71,71 @@ unbound = 451
 abbrev pub unsafe : ℕ
 unsafe = 452
 
+-- of forms and of their heads; the words of a malformed attribute, and of one behind functions, are its name
+abbrev pub head_mismatch : ℕ
+head_mismatch = 302
+
+abbrev pub malformed_module : ℕ
+malformed_module = 303
+
+abbrev pub malformed_export : ℕ
+malformed_export = 304
+
+abbrev pub malformed_import : ℕ
+malformed_import = 305
+
+abbrev pub malformed_record : ℕ
+malformed_record = 306
+
+abbrev pub malformed_attribute : ℕ
+malformed_attribute = 307
+
+abbrev pub second_module : ℕ
+second_module = 309
+
+abbrev pub form_before_module : ℕ
+form_before_module = 310
+
+abbrev pub after_functions : ℕ
+after_functions = 311
+
+abbrev pub fun_head_mismatch : ℕ
+fun_head_mismatch = 312
+
+abbrev pub too_many_functions : ℕ
+too_many_functions = 606
+
+abbrev pub too_many_arguments : ℕ
+too_many_arguments = 607
+
+abbrev pub function_too_large : ℕ
+function_too_large = 609
+
+-- of what is outside the profile, without words
+abbrev pub float_operation : ℕ
+float_operation = 502
+
+abbrev pub map : ℕ
+map = 503
+
+abbrev pub zip_generator : ℕ
+zip_generator = 505
+
+abbrev pub strict_generator : ℕ
+strict_generator = 508
+
+abbrev pub map_function : ℕ
+map_function = 509
+
+abbrev pub utf_segment : ℕ
+utf_segment = 510
+
+abbrev pub size_expression : ℕ
+size_expression = 511
+
+abbrev pub not_in_profile : ℕ
+not_in_profile = 512
+
 -- ---- texts
 
 -- what a fault says, before its words and after them
@@ -102,4 +167,25 @@ wording code =
     else if code == file_too_large then (record { before = codes "file too large"; after = [] })
     else if code == unbound then (record { before = codes "variable "; after = codes " is unbound" })
     else if code == unsafe then (record { before = codes "variable "; after = codes " is unsafe here" })
+    else if code == head_mismatch then (record { before = codes "head mismatch"; after = [] })
+    else if code == malformed_module then (record { before = codes "malformed attribute "; after = [] })
+    else if code == malformed_export then (record { before = codes "malformed attribute "; after = [] })
+    else if code == malformed_import then (record { before = codes "malformed attribute "; after = [] })
+    else if code == malformed_record then (record { before = codes "malformed attribute "; after = [] })
+    else if code == malformed_attribute then (record { before = codes "malformed attribute "; after = [] })
+    else if code == second_module then (record { before = codes "second module attribute"; after = [] })
+    else if code == form_before_module then (record { before = codes "form before module attribute"; after = [] })
+    else if code == after_functions then (record { before = codes "attribute "; after = codes " after functions" })
+    else if code == fun_head_mismatch then (record { before = codes "fun head mismatch"; after = [] })
+    else if code == float_operation then (record { before = codes "float operation"; after = [] })
+    else if code == map then (record { before = codes "map"; after = [] })
+    else if code == zip_generator then (record { before = codes "zip generator"; after = [] })
+    else if code == strict_generator then (record { before = codes "strict generator"; after = [] })
+    else if code == map_function then (record { before = codes "map function"; after = [] })
+    else if code == utf_segment then (record { before = codes "utf segment"; after = [] })
+    else if code == size_expression then (record { before = codes "size expression"; after = [] })
+    else if code == not_in_profile then (record { before = codes "not in this profile"; after = [] })
+    else if code == too_many_functions then (record { before = codes "too many functions"; after = [] })
+    else if code == function_too_large then (record { before = codes "function too large"; after = [] })
+    else if code == too_many_arguments then (record { before = codes "too many arguments"; after = [] })
     else record { before = []; after = [] }

@@ -13,6 +13,10 @@ start = place_at 0 first_position
 abbrev pub plain : Place → ℕ → Fault
 plain place code = record { place = place; code = code; words = [] }
 
+-- a fault that names something
+abbrev pub naming : Place → ℕ → List ℕ → Fault
+naming place code words = record { place = place; code = code; words = words }
+
 abbrev pub syntax_error : Place → Fault
 syntax_error place = plain place table.syntax_error
 

@@ -50,6 +50,50 @@ pub const UNBOUND: u16 = 451;
 
 pub const UNSAFE: u16 = 452;
 
+// Of forms and of their heads; the words of a malformed attribute, and of one behind functions, are its name.
+pub const HEAD_MISMATCH: u16 = 302;
+
+pub const MALFORMED_MODULE: u16 = 303;
+
+pub const MALFORMED_EXPORT: u16 = 304;
+
+pub const MALFORMED_IMPORT: u16 = 305;
+
+pub const MALFORMED_RECORD: u16 = 306;
+
+pub const MALFORMED_ATTRIBUTE: u16 = 307;
+
+pub const SECOND_MODULE: u16 = 309;
+
+pub const FORM_BEFORE_MODULE: u16 = 310;
+
+pub const AFTER_FUNCTIONS: u16 = 311;
+
+pub const FUN_HEAD_MISMATCH: u16 = 312;
+
+pub const TOO_MANY_FUNCTIONS: u16 = 606;
+
+pub const TOO_MANY_ARGUMENTS: u16 = 607;
+
+pub const FUNCTION_TOO_LARGE: u16 = 609;
+
+// Of what is outside the profile, without words.
+pub const FLOAT_OPERATION: u16 = 502;
+
+pub const MAP: u16 = 503;
+
+pub const ZIP_GENERATOR: u16 = 505;
+
+pub const STRICT_GENERATOR: u16 = 508;
+
+pub const MAP_FUNCTION: u16 = 509;
+
+pub const UTF_SEGMENT: u16 = 510;
+
+pub const SIZE_EXPRESSION: u16 = 511;
+
+pub const NOT_IN_PROFILE: u16 = 512;
+
 /// What a fault says, before its words and after them.
 #[derive(Clone, Copy)]
 pub struct Wording {
@@ -85,6 +129,27 @@ pub fn wording_of(code: u16) -> Wording
         FILE_TOO_LARGE => (b"file too large", b""),
         UNBOUND => (b"variable ", b" is unbound"),
         UNSAFE => (b"variable ", b" is unsafe here"),
+        HEAD_MISMATCH => (b"head mismatch", b""),
+        MALFORMED_MODULE => (b"malformed attribute ", b""),
+        MALFORMED_EXPORT => (b"malformed attribute ", b""),
+        MALFORMED_IMPORT => (b"malformed attribute ", b""),
+        MALFORMED_RECORD => (b"malformed attribute ", b""),
+        MALFORMED_ATTRIBUTE => (b"malformed attribute ", b""),
+        SECOND_MODULE => (b"second module attribute", b""),
+        FORM_BEFORE_MODULE => (b"form before module attribute", b""),
+        AFTER_FUNCTIONS => (b"attribute ", b" after functions"),
+        FUN_HEAD_MISMATCH => (b"fun head mismatch", b""),
+        FLOAT_OPERATION => (b"float operation", b""),
+        MAP => (b"map", b""),
+        ZIP_GENERATOR => (b"zip generator", b""),
+        STRICT_GENERATOR => (b"strict generator", b""),
+        MAP_FUNCTION => (b"map function", b""),
+        UTF_SEGMENT => (b"utf segment", b""),
+        SIZE_EXPRESSION => (b"size expression", b""),
+        NOT_IN_PROFILE => (b"not in this profile", b""),
+        TOO_MANY_FUNCTIONS => (b"too many functions", b""),
+        FUNCTION_TOO_LARGE => (b"function too large", b""),
+        TOO_MANY_ARGUMENTS => (b"too many arguments", b""),
         _ => (b"", b""),
     };
     Wording { before, after }

@@ -27,6 +27,14 @@ impl Fault {
         }
     }
 
+    /// A fault that names something.
+    pub fn naming(alloc: Global, place: Place, code: u16, words: &[u8]) -> Result<Fault, NoMemory>
+        ensures { IfOk result (λ made. made ≡ fault.naming place code words.now) }
+    {
+        let words = Bytes::from_slice(alloc, words)?;
+        Ok(Fault { place, code, words })
+    }
+
     /// The tokens are no spelling.
     pub fn syntax_error(alloc: Global, place: Place) -> Fault
         ensures { result ≡ fault.syntax_error place }
@@ -45,12 +53,7 @@ impl Fault {
     pub fn no_file(alloc: Global, path: &[u8]) -> Result<Fault, NoMemory>
         ensures { IfOk result (λ made. made ≡ fault.no_file path.now) }
     {
-        let words = Bytes::from_slice(alloc, path)?;
-        Ok(Fault {
-            place: START,
-            code: NO_FILE,
-            words,
-        })
+        Fault::naming(alloc, START, NO_FILE, path)
     }
 
     /// The module attribute lacks.
@@ -78,23 +81,13 @@ impl Fault {
     pub fn unbound(alloc: Global, place: Place, name: &str) -> Result<Fault, NoMemory>
         ensures { IfOk result (λ made. made ≡ fault.unbound place name.now) }
     {
-        let words = Bytes::from_slice(alloc, name.as_bytes())?;
-        Ok(Fault {
-            place,
-            code: UNBOUND,
-            words,
-        })
+        Fault::naming(alloc, place, UNBOUND, name.as_bytes())
     }
 
     /// A variable of this name is used that is bound on some ways and not on all.
     pub fn unsafe_use(alloc: Global, place: Place, name: &str) -> Result<Fault, NoMemory>
         ensures { IfOk result (λ made. made ≡ fault.unsafe place name.now) }
     {
-        let words = Bytes::from_slice(alloc, name.as_bytes())?;
-        Ok(Fault {
-            place,
-            code: UNSAFE,
-            words,
-        })
+        Fault::naming(alloc, place, UNSAFE, name.as_bytes())
     }
 }

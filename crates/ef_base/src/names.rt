@@ -61,6 +61,16 @@ impl Names {
         self.texts.get_index(name.index).unwrap().as_str()
     }
 
+    /// The text of a name, and none of a name of another table.
+    pub fn text_of(&self, name: Name) -> &str
+        ensures { result.now ≡ text self.now name }
+    {
+        match self.texts.get_index(name.index) {
+            Some(text) => text.as_str(),
+            None => "",
+        }
+    }
+
     /// The name of this text, which is put into the table where it is not there.
     pub fn intern(&mut self, text: &str) -> Result<Name, NoMemory>
         ensures kept { Extends self.old self.new }

@@ -3,3 +3,5 @@ mod Choice
 mod Steps
 mod Tops
 mod Runs
+pub mod Alike
+pub mod OneValue

@@ -71,7 +71,7 @@ module _ {T V R A : Type 0} (g : Grammar T V R A) where
 
   -- ---- all the tokens
 
-  to_begins : (α : List (Symbol R A)) (vs : V) (ts : List T) (ws : V) → Leads g α vs ts ws → Begins g [] α vs ts [] ws
+  pub to_begins : (α : List (Symbol R A)) (vs : V) (ts : List T) (ws : V) → Leads g α vs ts ws → Begins g [] α vs ts [] ws
   to_begins α vs ts ws (done us) = there [] us
   to_begins α vs ts ws (token s β us t xs zs e h) = takes s β [] us t xs zs (ap (λ z. has s (g.look (t ∷ z))) (append-nil xs) ∙ e) (to_begins β (g.push t us) xs zs h)
   to_begins α vs ts ws (acted a β us us' xs zs e h) = acts a β [] us us' xs zs e (to_begins β us' xs zs h)
@@ -83,7 +83,7 @@ module _ {T V R A : Type 0} (g : Grammar T V R A) where
   to_leads α vs ts δ ws (acts a β η us us' xs zs h k) e = acted a β us us' xs zs h (to_leads β us' xs η zs k e)
   to_leads α vs ts δ ws (goes n γ β η us xs zs m k) e = ruled n γ β us xs zs m (to_leads (γ ++ β) us xs η zs k e)
 
-  ends_all : (us : List T) → Ends g us [] []
+  pub ends_all : (us : List T) → Ends g us [] []
   ends_all [] = (refl, refl)
   ends_all (x ∷ us) = tt
 

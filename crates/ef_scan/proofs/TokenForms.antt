@@ -48,6 +48,12 @@ is_form all file (l ∷ ls) stop (t ∷ []) n e h = absurd (more ls h.2)
 is_form all file (l ∷ ls) stop (t ∷ u ∷ ts) n e h =
     (λ d. n.0 (dot_lexeme all l.lexeme (subst (IsKind all l.lexeme) d h.1)), is_form all file ls stop (u ∷ ts) n.1 e h.2)
 
+-- what an open form and its full stop give
+pub form_ends : (all : Texts) (file : ℕ) (ps : List (Placed Part)) (dot : Placed Part) (ts : List Token) → IsOpen ps → dot.lexeme ≡ lexeme full_stop → AreTokens all file (lexemes_of (ps ++ dot ∷ [])) ts → IsForm ts
+form_ends all file ps dot ts o d t =
+    is_form all file (lexemes_of ps) (record { lexeme = full_stop; at = dot.at }) ts (no_stop ps o) refl
+    (subst (λ ls. AreTokens all file ls ts) (lexemes_more ps (dot ∷ []) ∙ ap (λ k. lexemes_of ps ++ with_lexeme k dot.at []) d) t)
+
 -- ---- all forms
 
 of_forms : (all : Texts) (file : ℕ) (ps : List (Placed Part)) (fs : List Form) (forms : List (List Token)) → Forms all file ps fs → fs ≡ map tokens forms
@@ -63,8 +69,7 @@ of_forms all file _ _ (form ∷ forms) (ended ps more dot ts fs o d t f) e =
       subst (λ ls. AreTokens all file ls (form ++ joined forms)) (sym (lexemes_more (ps ++ dot ∷ []) more) ∙ ap lexemes_of parts)
           (tokens_append all file (lexemes_of (ps ++ dot ∷ [])) (lexemes_of more) form (joined forms) here on.0),
       (
-        is_form all file (lexemes_of ps) (record { lexeme = full_stop; at = dot.at }) form (no_stop ps o) refl
-            (subst (λ ls. AreTokens all file ls form) (lexemes_more ps (dot ∷ []) ∙ ap (λ k. lexemes_of ps ++ with_lexeme k dot.at []) d) here),
+        form_ends all file ps dot form o d here,
         on.1,
       ),
     )

@@ -1,0 +1,10 @@
+pub mod Tops
+pub mod Parts
+pub mod Shapes
+pub mod Below
+pub mod Renamed
+pub mod RenamedStack
+pub mod RenamedExpressions
+pub mod RenamedConstructs
+pub mod RenamedForms
+pub mod RenamedTokens

@@ -1,0 +1,14 @@
+-- Stacks of values, the last one at the end in the program and first in the definitions.
+use Rattle.std.proofs.Common.{◌≡◌, List, [], ◌∷◌, ◌++◌, refl, ap, ◌∙◌, map, reverse}
+use Rattle.std.proofs.lemmas.List.{reverse-append}
+use Rattle.ef_build.specs.declared.value.Value.{Value}
+use Rattle.ef_build.specs.Values.{value, stack}
+
+pub map_more : {X Y : Type 0} (f : X → Y) (xs : List X) (x : X) → map f (xs ++ x ∷ []) ≡ map f xs ++ f x ∷ []
+map_more f [] x = refl
+map_more f (y ∷ xs) x = ap (λ z. f y ∷ z) (map_more f xs x)
+
+pub stack_more : (xs : List Value) (x : Value) → stack (xs ++ x ∷ []) ≡ value x ∷ stack xs
+stack_more xs x = ap reverse (map_more value xs x) ∙ reverse-append (map value xs) (value x ∷ [])
+
+pub ruleset laws = (stack_more)

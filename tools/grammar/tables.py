@@ -8,6 +8,7 @@ ROWS is a text of three parts, as
     Plus '(' ')' Number Nothing
     set Sign = Plus
     rows
+    # ==== sum
     # ---- sums
     sum      : value sum_tail
     sum_tail : Sign value <add> sum_tail
@@ -18,10 +19,11 @@ ROWS is a text of three parts, as
     sum
 
 A symbol is a class of tokens, a set of classes, a rule or an action `<name>`, and `-` is the empty right side. `Nothing`
-is the class of the end, and `starts` has the rules that whole inputs begin with. Says where two rows are chosen at one
-class.
-With the NAME of a crate and its FOLDER, writes src/classes.rt, src/rows.rt, specs/Classes.antt, specs/Rules.antt,
-specs/Tables.antt and specs/Sound.antt there. What is written is proved, so nothing rests on this script.
+is the class of the end, and `starts` has the rules that whole inputs begin with. A line `# ==== NAME` says that the rules
+behind it have their rows in src/NAME_rows.rt. Says where two rows are chosen at one class.
+With the NAME of a crate and its FOLDER, writes src/classes.rt, src/rows.rt, a file of rows for each line `# ====`,
+specs/Classes.antt, specs/Rules.antt, specs/Tables.antt and specs/Sound.antt there. What is written is proved, so nothing
+rests on this script.
 """
 import os
 import re
@@ -46,15 +48,18 @@ def upper(word):
 
 
 class Grammar:
-    """The rows of a text. `rows` has the right sides of each rule, lists of symbols (token, rule or act, word)."""
+    """The rows of a text. `rows` has the right sides of each rule, lists of symbols (token, rule or act, word), and `parts`
+    the rules of each file of rows."""
 
     def __init__(self, text):
-        self.classes, self.sets, self.heads, self.starts, words = [], {}, {}, [], {}
-        part = rule = None
+        self.classes, self.sets, self.heads, self.parts, self.starts, words = [], {}, {}, {}, [], {}
+        part = rule = file = None
         comment = ""
         for line in (line.strip() for line in text.splitlines()):
             if line.startswith("# ----"):
                 comment = line[6:].strip()
+            if line.startswith("# ===="):
+                file = self.parts.setdefault(line[6:].strip(), [])
             if not line or line[0] == "#":
                 continue
             if line in ("classes", "rows", "starts"):
@@ -69,6 +74,7 @@ class Grammar:
                 name, right = re.match(r"(?:(\w+)\s*:|\|)\s+(.*)$", line).groups()
                 if name:
                     rule, words[name], self.heads[name], comment = name, [], comment, ""
+                    file.append(name)
                 words[rule].append([] if right == "-" else right.split())
         self.number = {name: i for i, name in enumerate(self.classes)}
         self.rows = {
@@ -166,33 +172,41 @@ def classes_code(g):
     return out.rstrip() + "\n"
 
 
-def rows_code(g, table, crate):
+def rows_code(g, crate):
+    def enum(doc, name, words):
+        body = "".join(f"    {camel(word)},\n" for word in words)
+        return f"/// {doc}\n#[derive(Clone, Copy)]\npub enum {name} {{\n{body}}}\n\n"
+
+    out = "// The rows of each rule of the grammar.\n"
+    out += "ghost use Rattle.std.specs.Prelude.{◌≡◌, map};\n"
+    out += "ghost use Rattle.ef_grammar.specs.Shown.{row};\n"
+    out += f"ghost use Rattle.{crate}.specs.Tables as tables;\n\n"
+    out += "".join(f"use crate::{part}_rows as {part};\n" for part in g.parts) + "use ef_grammar::Row;\n\n"
+    out += enum("A rule of the grammar.", "RuleName", g.rows)
+    out += enum("What builds from what has been read.", "Action", g.actions)
+    out += "/// The right sides of the rule.\npub fn rows(rule: RuleName) -> &'static [Row<RuleName, Action>]\n"
+    out += "    ensures { map row result.now ≡ tables.rows rule }\n{\n    match rule {\n"
+    for part, names in g.parts.items():
+        out += "".join(f"        RuleName::{camel(name)} => {part}::{upper(name)},\n" for name in names)
+    return out + "    }\n}\n"
+
+
+def part_code(g, table, part):
     def symbol(kind, word):
         if kind == "token":
             return f"Token(classes::{upper(word)})" if word in g.sets else f"Token(1 << classes::{upper(word)})"
         return f"Rule(RuleName::{camel(word)})" if kind == "rule" else f"Act(Action::{camel(word)})"
 
-    def enum(doc, name, words):
-        body = "".join(f"    {camel(word)},\n" for word in words)
-        return f"/// {doc}\n#[derive(Clone, Copy)]\npub enum {name} {{\n{body}}}\n\n"
-
-    out = "// The rows of the grammar.\n"
-    out += "ghost use Rattle.std.specs.Prelude.{◌≡◌, map};\n"
-    out += "ghost use Rattle.ef_grammar.specs.Shown.{row};\n"
-    out += f"ghost use Rattle.{crate}.specs.Tables as tables;\n\n"
-    out += "use crate::classes;\nuse ef_grammar::Row;\nuse ef_grammar::Symbol::{Act, Rule, Token};\n\n"
-    out += enum("A rule of the grammar.", "RuleName", g.rows)
-    out += enum("What builds from what has been read.", "Action", g.actions)
-    for name, rights in g.rows.items():
-        out += f"const {upper(name)}: &[Row<RuleName, Action>] = &[\n"
-        for k, right in enumerate(rights):
+    out = f"// The rows of the grammar: {part}.\n\n"
+    out += "use crate::classes;\nuse crate::rows::{Action, RuleName};\n"
+    out += "use ef_grammar::Row;\nuse ef_grammar::Symbol::{Act, Rule, Token};\n\n"
+    for name in g.parts[part]:
+        out += f"pub const {upper(name)}: &[Row<RuleName, Action>] = &[\n"
+        for at, right in zip(table.at[name], g.rows[name]):
             symbols = ", ".join(symbol(*one) for one in right)
-            out += f"    Row {{\n        at: 0x{table.at[name][k]:x},\n        right: &[{symbols}],\n    }},\n"
+            out += f"    Row {{\n        at: 0x{at:x},\n        right: &[{symbols}],\n    }},\n"
         out += "];\n\n"
-    out += "/// The right sides of the rule.\npub fn rows(rule: RuleName) -> &'static [Row<RuleName, Action>]\n"
-    out += "    ensures { map row result.now ≡ tables.rows rule }\n{\n    match rule {\n"
-    out += "".join(f"        RuleName::{camel(name)} => {upper(name)},\n" for name in g.rows)
-    return out + "    }\n}\n"
+    return out.rstrip() + "\n"
 
 
 def classes_spec(g):
@@ -275,12 +289,14 @@ def main(path, crate=None, folder=None):
         sys.exit("no table: there are more than 64 classes, or what is said above")
     files = {
         "src/classes.rt": lambda: classes_code(g),
-        "src/rows.rt": lambda: rows_code(g, table, crate),
+        "src/rows.rt": lambda: rows_code(g, crate),
         "specs/Classes.antt": lambda: classes_spec(g),
         "specs/Rules.antt": lambda: rules_spec(g, crate),
         "specs/Tables.antt": lambda: tables_spec(g, table, crate),
         "specs/Sound.antt": lambda: sound_spec(g, crate),
     }
+    for part in g.parts:
+        files[f"src/{part}_rows.rt"] = lambda part=part: part_code(g, table, part)
     for name, text in files.items() if folder else ():
         os.makedirs(os.path.dirname(os.path.join(folder, name)), exist_ok=True)
         with open(os.path.join(folder, name), "w", encoding="utf-8") as out:

@@ -1,0 +1,4 @@
+pub mod Later
+pub mod OneSingle
+pub mod Renamed
+pub mod TwoTables

@@ -1,7 +1,7 @@
 // Depths and weights of trees, and let form.
-use ef_base::{Name, Place};
+use ef_base::Place;
 use ef_core::{CoreExpr, CoreLit, CoreVar, LetStep, core_depth, core_weight, is_let_form};
-use ef_forms::{Clause, Expr, Node, depth, weight};
+use ef_forms::{Expr, Node, depth, weight};
 use std::alloc::Global;
 use std::test::Fail;
 
@@ -15,38 +15,19 @@ fn expr(node: Node) -> Expr {
     Expr { place: HERE, node }
 }
 
-// `f(argument)`
-fn call(alloc: Global, argument: Expr) -> Result<Expr, Fail> {
-    let target = Box::new(alloc, expr(Node::Atom(Name { index: 0 })))?;
-    let args = vec![in alloc; argument]?;
-    Ok(expr(Node::Call { target, args }))
-}
-
-// `case argument of _ -> 1 end`
-fn choice(alloc: Global, argument: Expr) -> Result<Expr, Fail> {
-    let clause = Clause {
-        place: HERE,
-        patterns: vec![in alloc; expr(Node::Any)]?,
-        guard: Vec::new(alloc),
-        body: vec![in alloc; expr(Node::Int(1))]?,
-    };
-    Ok(expr(Node::Case {
-        arg: Box::new(alloc, argument)?,
-        clauses: vec![in alloc; clause]?,
-    }))
+// Depth and weight.
+fn measured(expr: Expr) -> (u32, u64) {
+    let both = (depth(&expr), weight(&expr, &[]));
+    drop(expr);
+    both
 }
 
 #[test]
 fn parts_of_a_source_are_counted(rt: HostRuntime) -> Result<(), Fail> {
     let alloc = rt.alloc();
-    let leaf = expr(Node::Int(1));
-    assert_eq!(rt; (depth(&leaf), weight(&leaf, &[])), (1, 1));
-    let calls = call(alloc, call(alloc, expr(Node::Int(1)))?)?;
-    assert_eq!(rt; (depth(&calls), weight(&calls, &[])), (3, 5));
-    let tuple = expr(Node::Tuple(vec![in alloc; calls, expr(Node::Any)]?));
-    assert_eq!(rt; (depth(&tuple), weight(&tuple, &[])), (4, 7));
-    let case = choice(alloc, call(alloc, expr(Node::Int(1)))?)?;
-    assert_eq!(rt; (depth(&case), weight(&case, &[])), (3, 6));
+    assert_eq!(rt; measured(expr(Node::Int(1))), (1, 1));
+    let parts = vec![in alloc; expr(Node::Any)]?;
+    assert_eq!(rt; measured(expr(Node::Tuple(parts))), (2, 2));
     Ok(())
 }
 

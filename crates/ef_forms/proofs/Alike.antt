@@ -6,7 +6,7 @@ use Rattle.std.specs.Prelude.{true}
 use Rattle.ef_base.specs.declared.name.Name.{Name}
 use Rattle.ef_base.specs.declared.fault.Place.{Place}
 use Rattle.ef_base.specs.Texts.{Texts}
-use Rattle.ef_forms.specs.Tree.{Tree, Trees, Guards, Clauses, tree, int, atom, var, any, list, list_to, tuple, matching, call, remote, case_of, end, more, no_guard, or_guard, no_clauses, clause}
+use Rattle.ef_forms.specs.Tree.{Tree, Trees, Guards, Clauses, tree, var, list, list_to, tuple, matching, call, remote, case_of, end, more, no_guard, or_guard, no_clauses, clause}
 use Rattle.ef_forms.specs.Ways.{NameSet, Way, all_names, on_some, on_all, use_faults, name_faults, pattern_faults, patterns_faults, pattern_clauses_faults, faults, all_faults, body_faults, clauses_faults, pattern_guards_faults, guards_faults}
 use Rattle.ef_forms.proofs.Growth.{given, Grows, grows_bind, after_given, after_some, after_all}
 use Rattle.ef_forms.proofs.Grows.{grows_ways, grows_body}
@@ -44,10 +44,7 @@ module _ (all : Texts) where
 
   mutual
     pub same_pattern_faults : (e : Tree) (a b : List NameSet) → Alike a b → pattern_faults all e a ≡ pattern_faults all e b
-    same_pattern_faults (tree p (int i)) a b h = refl
-    same_pattern_faults (tree p (atom n)) a b h = refl
     same_pattern_faults (tree p (var n)) a b h = same_name p n a b h
-    same_pattern_faults (tree p any) a b h = refl
     same_pattern_faults (tree p (list es)) a b h = same_patterns_faults es a b h
     same_pattern_faults (tree p (list_to es e)) a b h = both (same_patterns_faults es a b h) (same_pattern_faults e a b h)
     same_pattern_faults (tree p (tuple es)) a b h = same_patterns_faults es a b h
@@ -55,6 +52,7 @@ module _ (all : Texts) where
     same_pattern_faults (tree p (call f es)) a b h = both (same_pattern_faults f a b h) (same_patterns_faults es a b h)
     same_pattern_faults (tree p (remote m f es)) a b h = both (same_pattern_faults m a b h) (both (same_pattern_faults f a b h) (same_patterns_faults es a b h))
     same_pattern_faults (tree p (case_of e cs)) a b h = both (same_pattern_faults e a b h) (same_pattern_clauses_faults cs a b h)
+    same_pattern_faults (tree p _) a b h = refl
 
     pub same_patterns_faults : (es : Trees) (a b : List NameSet) → Alike a b → patterns_faults all es a ≡ patterns_faults all es b
     same_patterns_faults end a b h = refl
@@ -71,10 +69,7 @@ module _ (all : Texts) where
 
   mutual
     pub same_faults : (e : Tree) (a b : List NameSet) → Alike a b → faults all e a ≡ faults all e b
-    same_faults (tree p (int i)) a b h = refl
-    same_faults (tree p (atom n)) a b h = refl
     same_faults (tree p (var n)) a b h = same_use p n a b h
-    same_faults (tree p any) a b h = refl
     same_faults (tree p (list es)) a b h = same_all_faults es a b h
     same_faults (tree p (list_to es e)) a b h = both (same_all_faults es a b h) (same_faults e a b h)
     same_faults (tree p (tuple es)) a b h = same_all_faults es a b h
@@ -82,6 +77,7 @@ module _ (all : Texts) where
     same_faults (tree p (call f es)) a b h = both (same_faults f a b h) (same_all_faults es a b h)
     same_faults (tree p (remote m f es)) a b h = both (same_faults m a b h) (both (same_faults f a b h) (same_all_faults es a b h))
     same_faults (tree p (case_of e cs)) a b h = both (same_faults e a b h) (same_clauses_faults cs _ _ (alike_after _ _ _ (grows_ways e) a b h))
+    same_faults (tree p _) a b h = refl
 
     pub same_all_faults : (es : Trees) (a b : List NameSet) → Alike a b → all_faults all es a ≡ all_faults all es b
     same_all_faults end a b h = refl

@@ -5,7 +5,7 @@ use Rattle.ef_base.specs.Texts.{Texts, Extends, HasName, IsNameOf, text}
 use Rattle.ef_base.specs.Laws.{named_later}
 use Rattle.ef_forms.specs.declared.form.FunctionRef.{FunctionRef}
 use Rattle.ef_forms.specs.declared.tables.FunctionName.{FunctionName}
-use Rattle.ef_forms.specs.Tree.{Tree, Trees, Clauses, FunctionTree, FormTree, PlacedTree, ModuleTree, tree, int, atom, var, any, list, list_to, tuple, matching, call, remote, case_of, end, more, no_guard, or_guard, no_clauses, clause, module_name, export, function, count}
+use Rattle.ef_forms.specs.Tree.{Tree, Trees, Clauses, FunctionTree, FormTree, PlacedTree, ModuleTree, tree, atom, list, list_to, tuple, matching, call, remote, case_of, end, more, no_guard, or_guard, no_clauses, clause, export, function, count}
 use Rattle.ef_forms.specs.OfTable.{TreeOf, TreesOf, ClausesOf, FunctionOf, ReferencesOf, FormOf, FormsOf, ModuleOf}
 use Rattle.ef_forms.specs.Built.{IsDefined, IsModuleInfo, IsCallOf, IsForeignModule, IsBuiltTree, AreBuilt, AreBuiltClauses, IsBuiltFunction, IsBuilt, Each, exports_in, exports_of, functions_in, functions_of, defined_in, name_of}
 
@@ -29,36 +29,14 @@ module _ (now a b : Texts) (agree : Agree now a b) where
 
   call_same : (defined : List FunctionName) (f : Tree) (k : ℕ) → TreeOf now f → IsCallOf a defined f k → IsCallOf b defined f k
   call_same defined (tree p (atom n)) k of is = defined_same defined (record { name = n; arity = k }) of is
-  call_same defined (tree p (int i)) k of is = is
-  call_same defined (tree p (var n)) k of is = is
-  call_same defined (tree p any) k of is = is
-  call_same defined (tree p (list es)) k of is = is
-  call_same defined (tree p (list_to es e)) k of is = is
-  call_same defined (tree p (tuple es)) k of is = is
-  call_same defined (tree p (matching q e)) k of is = is
-  call_same defined (tree p (call f es)) k of is = is
-  call_same defined (tree p (remote m f es)) k of is = is
-  call_same defined (tree p (case_of e cs)) k of is = is
+  call_same defined (tree p _) k of is = is
 
   foreign_same : (m : Tree) → TreeOf now m → IsForeignModule a m → IsForeignModule b m
   foreign_same (tree p (atom n)) of is = λ same. is (agree n of ∙ same)
-  foreign_same (tree p (int i)) of is = is
-  foreign_same (tree p (var n)) of is = is
-  foreign_same (tree p any) of is = is
-  foreign_same (tree p (list es)) of is = is
-  foreign_same (tree p (list_to es e)) of is = is
-  foreign_same (tree p (tuple es)) of is = is
-  foreign_same (tree p (matching q e)) of is = is
-  foreign_same (tree p (call f es)) of is = is
-  foreign_same (tree p (remote m f es)) of is = is
-  foreign_same (tree p (case_of e cs)) of is = is
+  foreign_same (tree p _) of is = is
 
   mutual
     tree_same : (defined : List FunctionName) (e : Tree) → TreeOf now e → IsBuiltTree a defined e → IsBuiltTree b defined e
-    tree_same defined (tree p (int i)) of is = is
-    tree_same defined (tree p (atom n)) of is = is
-    tree_same defined (tree p (var n)) of is = is
-    tree_same defined (tree p any) of is = is
     tree_same defined (tree p (list es)) of is = trees_same defined es of is
     tree_same defined (tree p (list_to es e)) of is = (trees_same defined es of.0 is.0, tree_same defined e of.1 is.1)
     tree_same defined (tree p (tuple es)) of is = trees_same defined es of is
@@ -66,6 +44,7 @@ module _ (now a b : Texts) (agree : Agree now a b) where
     tree_same defined (tree p (call f es)) of is = (call_same defined f (count es) of.0 is.0, trees_same defined es of.1 is.1)
     tree_same defined (tree p (remote m f es)) of is = (foreign_same m of.0 is.0, is.1, trees_same defined es of.2 is.2)
     tree_same defined (tree p (case_of e cs)) of is = (tree_same defined e of.0 is.0, is.1, clauses_same defined 1 cs of.1 is.2)
+    tree_same defined (tree p _) of is = is
 
     trees_same : (defined : List FunctionName) (es : Trees) → TreesOf now es → AreBuilt a defined es → AreBuilt b defined es
     trees_same defined end of is = is
@@ -92,21 +71,21 @@ module _ (now a b : Texts) (agree : Agree now a b) where
   exported_same defined (f ∷ fs) of is = by_form f.form of.0 (exported_same defined fs of.1) is
     where
       by_form : (g : FormTree) → FormOf now g → (Each (IsDefined a defined) (exports_in fs) → Each (IsDefined b defined) (exports_in fs)) → Each (IsDefined a defined) (exports_of g ++ exports_in fs) → Each (IsDefined b defined) (exports_of g ++ exports_in fs)
-      by_form (module_name n) here then is = then is
       by_form (export rs) here then is = exports_same defined rs (exports_in fs) here then is
-      by_form (function g) here then is = then is
+      by_form _ here then is = then is
 
   bodies_same : (defined : List FunctionName) (fs : List PlacedTree) → FormsOf now fs → Each (IsBuiltFunction a defined) (functions_in fs) → Each (IsBuiltFunction b defined) (functions_in fs)
   bodies_same defined [] of is = is
   bodies_same defined (f ∷ fs) of is = by_form f.form of.0 (bodies_same defined fs of.1) is
     where
       by_form : (g : FormTree) → FormOf now g → (Each (IsBuiltFunction a defined) (functions_in fs) → Each (IsBuiltFunction b defined) (functions_in fs)) → Each (IsBuiltFunction a defined) (functions_of g ++ functions_in fs) → Each (IsBuiltFunction b defined) (functions_of g ++ functions_in fs)
-      by_form (module_name n) here then is = then is
-      by_form (export rs) here then is = then is
       by_form (function g) here then is = (function_same defined g here is.0, then is.1)
+      by_form _ here then is = then is
 
   module_same : (m : ModuleTree) → ModuleOf now m → IsBuilt a m → IsBuilt b m
   module_same m of is = record {
+    forms = is.forms;
+    one_export = is.one_export;
     functions = is.functions;
     exports = is.exports;
     exported = exported_same (defined_in m.forms) m.forms of.1 is.exported;

@@ -4,7 +4,7 @@ use Rattle.std.specs.Prelude.{List, [], ◌∷◌, ◌++◌, Bool, true, false, 
 use Rattle.ef_base.specs.declared.name.Name.{Name}
 use Rattle.ef_base.specs.declared.fault.Place.{Place}
 use Rattle.ef_base.specs.Texts.{Texts}
-use Rattle.ef_forms.specs.Tree.{Tree, Trees, Guards, Clauses, tree, int, atom, var, any, list, list_to, tuple, matching, call, remote, case_of, end, more, no_guard, or_guard, no_clauses, clause}
+use Rattle.ef_forms.specs.Tree.{Tree, Trees, Guards, Clauses, tree, var, any, list, list_to, tuple, matching, call, remote, case_of, end, more, no_guard, or_guard, no_clauses, clause}
 use Rattle.ef_forms.specs.Ways.{NameSet, all_names, on_some, on_all, unbound, unsafe, use_faults, name_faults, pattern_faults, patterns_faults, pattern_clauses_faults, faults, all_faults, body_faults, clauses_faults, pattern_guards_faults, guards_faults}
 use Rattle.ef_forms.proofs.Within.{Within, within_ways, within_body, within_bind}
 
@@ -42,10 +42,7 @@ module _ (all : Texts) where
 
   mutual
     pub fewer_pattern_faults : (e : Tree) (a b : List NameSet) → Within a b → pattern_faults all e b ≡ [] → pattern_faults all e a ≡ []
-    fewer_pattern_faults (tree p (int i)) a b w h = refl
-    fewer_pattern_faults (tree p (atom n)) a b w h = refl
     fewer_pattern_faults (tree p (var n)) a b w h = fewer_names p n a b w h
-    fewer_pattern_faults (tree p any) a b w h = refl
     fewer_pattern_faults (tree p (list es)) a b w h = fewer_patterns_faults es a b w h
     fewer_pattern_faults (tree p (list_to es e)) a b w h = both_none _ _ _ _ (fewer_patterns_faults es a b w) (fewer_pattern_faults e a b w) h
     fewer_pattern_faults (tree p (tuple es)) a b w h = fewer_patterns_faults es a b w h
@@ -53,6 +50,7 @@ module _ (all : Texts) where
     fewer_pattern_faults (tree p (call f es)) a b w h = both_none _ _ _ _ (fewer_pattern_faults f a b w) (fewer_patterns_faults es a b w) h
     fewer_pattern_faults (tree p (remote m f es)) a b w h = both_none _ _ _ _ (fewer_pattern_faults m a b w) (both_none _ _ _ _ (fewer_pattern_faults f a b w) (fewer_patterns_faults es a b w)) h
     fewer_pattern_faults (tree p (case_of e cs)) a b w h = both_none _ _ _ _ (fewer_pattern_faults e a b w) (fewer_pattern_clauses_faults cs a b w) h
+    fewer_pattern_faults (tree p _) a b w h = refl
 
     pub fewer_patterns_faults : (es : Trees) (a b : List NameSet) → Within a b → patterns_faults all es b ≡ [] → patterns_faults all es a ≡ []
     fewer_patterns_faults end a b w h = refl
@@ -70,8 +68,6 @@ module _ (all : Texts) where
 
   mutual
     pub fewer_faults : (e : Tree) (a b : List NameSet) → Within a b → faults all e b ≡ [] → faults all e a ≡ []
-    fewer_faults (tree p (int i)) a b w h = refl
-    fewer_faults (tree p (atom n)) a b w h = refl
     fewer_faults (tree p (var n)) a b w h = fewer_uses p n a b w h
     fewer_faults (tree p any) a b w h = cc
     fewer_faults (tree p (list es)) a b w h = fewer_all_faults es a b w h
@@ -81,6 +77,7 @@ module _ (all : Texts) where
     fewer_faults (tree p (call f es)) a b w h = both_none _ _ _ _ (fewer_faults f a b w) (fewer_all_faults es a b w) h
     fewer_faults (tree p (remote m f es)) a b w h = both_none _ _ _ _ (fewer_faults m a b w) (both_none _ _ _ _ (fewer_faults f a b w) (fewer_all_faults es a b w)) h
     fewer_faults (tree p (case_of e cs)) a b w h = both_none _ _ _ _ (fewer_faults e a b w) (fewer_clauses_faults cs _ _ (within_ways a b w e)) h
+    fewer_faults (tree p _) a b w h = refl
 
     pub fewer_all_faults : (es : Trees) (a b : List NameSet) → Within a b → all_faults all es b ≡ [] → all_faults all es a ≡ []
     fewer_all_faults end a b w h = refl

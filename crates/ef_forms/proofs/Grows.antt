@@ -3,7 +3,7 @@ use Rattle.std.proofs.Common.{◌≡◌, sym}
 use Rattle.std.specs.Prelude.{List, true, ◌||◌}
 use Rattle.std.specs.List.{flat_map}
 use Rattle.ef_base.specs.declared.name.Name.{Name}
-use Rattle.ef_forms.specs.Tree.{Tree, Shape, Trees, Clauses, tree, int, atom, var, any, list, list_to, tuple, matching, call, remote, case_of, end, more, no_clauses, clause}
+use Rattle.ef_forms.specs.Tree.{Tree, Shape, Trees, Clauses, tree, var, list, list_to, tuple, matching, call, remote, case_of, end, more, no_clauses, clause}
 use Rattle.ef_forms.specs.Ways.{NameSet, no_names, one_name, union, Way, bind, before, names, all_names, ways, shape_ways, side_by_side, body_ways, clauses_ways, on_some, on_all}
 use Rattle.ef_forms.specs.Sure.{sure, shape_sure, all_sure, clauses_sure}
 use Rattle.ef_forms.proofs.Bools.{or_false}
@@ -15,10 +15,7 @@ abbrev mutual
   may (tree p e) = shape_may e
 
   pub shape_may : Shape → NameSet
-  shape_may (int i) = no_names
-  shape_may (atom n) = no_names
   shape_may (var n) = one_name n
-  shape_may any = no_names
   shape_may (list es) = all_may es
   shape_may (list_to es e) = union (all_may es) (may e)
   shape_may (tuple es) = all_may es
@@ -26,6 +23,7 @@ abbrev mutual
   shape_may (call f es) = union (may f) (all_may es)
   shape_may (remote m f es) = union (may m) (union (may f) (all_may es))
   shape_may (case_of e cs) = union (may e) (clauses_may cs)
+  shape_may _ = no_names
 
   -- one after another, or side by side
   pub all_may : Trees → NameSet
@@ -46,10 +44,7 @@ mutual
   grows_ways (tree p e) = grows_shape e
 
   pub grows_shape : (e : Shape) → Grows (shape_ways e) (shape_may e) (shape_sure e)
-  grows_shape (int i) = grows_stay
-  grows_shape (atom n) = grows_stay
   grows_shape (var n) = grows_bind (one_name n)
-  grows_shape any = grows_stay
   grows_shape (list es) = grows_side es
   grows_shape (list_to es e) = grows_beside _ _ _ _ _ _ (grows_side es) (grows_ways e)
   grows_shape (tuple es) = grows_side es
@@ -57,6 +52,7 @@ mutual
   grows_shape (call f es) = grows_beside _ _ _ _ _ _ (grows_ways f) (grows_side es)
   grows_shape (remote m f es) = grows_beside _ _ _ _ _ _ (grows_ways m) (grows_beside _ _ _ _ _ _ (grows_ways f) (grows_side es))
   grows_shape (case_of e cs) = grows_before _ _ _ _ _ _ (grows_ways e) (grows_clauses cs)
+  grows_shape _ = grows_stay
 
   pub grows_side : (es : Trees) → Grows (side_by_side es) (all_may es) (all_sure es)
   grows_side end = grows_stay

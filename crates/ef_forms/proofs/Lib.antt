@@ -1,6 +1,5 @@
 pub mod Plain
-pub mod Depths
-pub mod Takes
+pub mod Shapes
 pub mod Built
 pub mod Ways
 pub mod Bools
@@ -9,3 +8,9 @@ pub mod Grows
 pub mod Within
 pub mod Fewer
 pub mod Alike
+pub mod Renamed
+pub mod Opened
+pub mod Views
+pub mod RenamedNodes
+pub mod Measured
+pub mod Extents

@@ -4,7 +4,7 @@ use Rattle.std.specs.List.{flat_map}
 use Rattle.ef_base.specs.declared.name.Name.{Name}
 use Rattle.ef_base.specs.declared.fault.Place.{Place}
 use Rattle.ef_base.specs.Texts.{Texts, Extends, HasName}
-use Rattle.ef_forms.specs.Tree.{Tree, Trees, Guards, Clauses, FunctionTree, tree, int, atom, var, any, list, list_to, tuple, matching, call, remote, case_of, end, more, no_guard, or_guard, no_clauses, clause}
+use Rattle.ef_forms.specs.Tree.{Tree, Trees, Guards, Clauses, FunctionTree, tree, var, list, list_to, tuple, matching, call, remote, case_of, end, more, no_guard, or_guard, no_clauses, clause}
 use Rattle.ef_forms.specs.OfTable.{TreeOf, TreesOf, GuardsOf, ClausesOf, FunctionOf}
 use Rattle.ef_forms.specs.Ways.{NameSet, faults, all_faults, body_faults, clauses_faults, function_faults, use_faults, name_faults, pattern_faults, patterns_faults, pattern_clauses_faults, ways, body_ways, bind, all_names, no_names, pattern_guards_faults, guards_faults}
 use Rattle.ef_forms.proofs.Built.{text_later}
@@ -21,10 +21,7 @@ module _ (now all : Texts) (later : Extends now all) where
 
   mutual
     pattern_same : (e : Tree) (sets : List NameSet) → TreeOf now e → pattern_faults all e sets ≡ pattern_faults now e sets
-    pattern_same (tree p (int i)) sets of = refl
-    pattern_same (tree p (atom n)) sets of = refl
     pattern_same (tree p (var n)) sets of = name_later p n sets of
-    pattern_same (tree p any) sets of = refl
     pattern_same (tree p (list es)) sets of = patterns_same es sets of
     pattern_same (tree p (list_to es e)) sets of = both (patterns_same es sets of.0) (pattern_same e sets of.1)
     pattern_same (tree p (tuple es)) sets of = patterns_same es sets of
@@ -32,6 +29,7 @@ module _ (now all : Texts) (later : Extends now all) where
     pattern_same (tree p (call f es)) sets of = both (pattern_same f sets of.0) (patterns_same es sets of.1)
     pattern_same (tree p (remote m f es)) sets of = both (pattern_same m sets of.0) (both (pattern_same f sets of.1) (patterns_same es sets of.2))
     pattern_same (tree p (case_of e cs)) sets of = both (pattern_same e sets of.0) (pattern_clauses_same cs sets of.1)
+    pattern_same (tree p _) sets of = refl
 
     patterns_same : (es : Trees) (sets : List NameSet) → TreesOf now es → patterns_faults all es sets ≡ patterns_faults now es sets
     patterns_same end sets of = refl
@@ -48,10 +46,7 @@ module _ (now all : Texts) (later : Extends now all) where
 
   mutual
     faults_same : (e : Tree) (sets : List NameSet) → TreeOf now e → faults all e sets ≡ faults now e sets
-    faults_same (tree p (int i)) sets of = refl
-    faults_same (tree p (atom n)) sets of = refl
     faults_same (tree p (var n)) sets of = use_later p n sets of
-    faults_same (tree p any) sets of = refl
     faults_same (tree p (list es)) sets of = all_same es sets of
     faults_same (tree p (list_to es e)) sets of = both (all_same es sets of.0) (faults_same e sets of.1)
     faults_same (tree p (tuple es)) sets of = all_same es sets of
@@ -59,6 +54,7 @@ module _ (now all : Texts) (later : Extends now all) where
     faults_same (tree p (call f es)) sets of = both (faults_same f sets of.0) (all_same es sets of.1)
     faults_same (tree p (remote m f es)) sets of = both (faults_same m sets of.0) (both (faults_same f sets of.1) (all_same es sets of.2))
     faults_same (tree p (case_of e cs)) sets of = both (faults_same e sets of.0) (clauses_same cs (flat_map (ways e) sets) of.1)
+    faults_same (tree p _) sets of = refl
 
     all_same : (es : Trees) (sets : List NameSet) → TreesOf now es → all_faults all es sets ≡ all_faults now es sets
     all_same end sets of = refl

@@ -1,10 +1,10 @@
 -- The modules that are built so far, and the limits on them.
-use Rattle.std.specs.Prelude.{ℕ, ◌≤◌, ◌≡◌, ◌≢◌, ◌⊎◌, List, [], ◌∷◌, codes, map}
+use Rattle.std.specs.Prelude.{ℕ, ◌+◌, ◌≤◌, ◌≡◌, ◌≢◌, ◌⊎◌, List, [], ◌∷◌, codes, map}
 use Rattle.std.specs.List.{flat_map}
 use Rattle.ef_base.specs.Texts.{Texts, text}
 use Rattle.ef_forms.specs.declared.form.FunctionRef.{FunctionRef}
 use Rattle.ef_forms.specs.declared.tables.FunctionName.{FunctionName}
-use Rattle.ef_forms.specs.Tree.{Tree, Shape, Trees, Guards, Clauses, FunctionTree, FormTree, PlacedTree, ModuleTree, tree, int, atom, var, any, list, list_to, tuple, matching, call, remote, case_of, end, more, no_guard, or_guard, no_clauses, clause, module_name, export, function, count}
+use Rattle.ef_forms.specs.Tree.{Tree, Shape, Trees, Guards, Clauses, FunctionTree, FormTree, PlacedTree, ModuleTree, tree, int, atom, var, any, list, list_to, tuple, matching, call, remote, case_of, end, more, no_guard, or_guard, no_clauses, clause, module_name, export, dropped, function, count}
 
 -- ---- what a module defines and exports, in order of the source
 
@@ -12,17 +12,15 @@ abbrev pub name_of : FunctionRef → FunctionName
 name_of r = record { name = r.name; arity = r.arity }
 
 abbrev pub functions_of : FormTree → List FunctionTree
-functions_of (module_name n) = []
-functions_of (export refs) = []
 functions_of (function g) = g ∷ []
+functions_of _ = []
 
 abbrev pub functions_in : List PlacedTree → List FunctionTree
 functions_in fs = flat_map (λ (f : PlacedTree). functions_of f.form) fs
 
 abbrev pub exports_of : FormTree → List FunctionName
-exports_of (module_name n) = []
 exports_of (export refs) = map name_of refs
-exports_of (function g) = []
+exports_of _ = []
 
 abbrev pub exports_in : List PlacedTree → List FunctionName
 exports_in fs = flat_map (λ (f : PlacedTree). exports_of f.form) fs
@@ -82,10 +80,7 @@ abbrev mutual
   IsPatternShape (list es) = ArePatterns es
   IsPatternShape (list_to es e) = ArePatterns es × IsPattern e
   IsPatternShape (tuple es) = ArePatterns es
-  IsPatternShape (matching p e) = ⊥
-  IsPatternShape (call f es) = ⊥
-  IsPatternShape (remote m f es) = ⊥
-  IsPatternShape (case_of e cs) = ⊥
+  IsPatternShape _ = ⊥
 
   pub ArePatterns : Trees → Type 0
   ArePatterns end = Unit {0}
@@ -115,6 +110,7 @@ module _ (all : Texts) (defined : List FunctionName) where
     IsBuiltShape (call f es) = IsCallOf all defined f (count es) × AreBuilt es
     IsBuiltShape (remote m f es) = IsForeignModule all m × IsAtom f × AreBuilt es
     IsBuiltShape (case_of e cs) = IsBuiltTree e × AreSome cs × AreBuiltClauses 1 cs
+    IsBuiltShape _ = ⊥
 
     pub AreBuilt : Trees → Type 0
     AreBuilt end = Unit {0}
@@ -130,14 +126,38 @@ module _ (all : Texts) (defined : List FunctionName) where
 abbrev pub IsBuiltFunction : Texts → List FunctionName → FunctionTree → Type 0
 IsBuiltFunction all defined f = (IsModuleInfo all (key_of f) → ⊥) × AreBuiltClauses all defined f.arity f.clauses
 
--- a module that is built: what it exports and calls is defined, and nothing is defined or exported twice
+-- the attributes that a module may have are `module`, `export` and those that are dropped
+abbrev pub IsBuiltForm : FormTree → Type 0
+IsBuiltForm (module_name n) = Unit {0}
+IsBuiltForm (export refs) = Unit {0}
+IsBuiltForm dropped = Unit {0}
+IsBuiltForm (function g) = Unit {0}
+IsBuiltForm _ = ⊥
+
+abbrev pub AreBuiltForms : List PlacedTree → Type 0
+AreBuiltForms [] = Unit {0}
+AreBuiltForms (f ∷ fs) = IsBuiltForm f.form × AreBuiltForms fs
+
+-- how many of the forms are export attributes
+abbrev pub export_count_of : FormTree → ℕ
+export_count_of (export refs) = 1
+export_count_of _ = 0
+
+abbrev pub export_count_in : List PlacedTree → ℕ
+export_count_in [] = 0
+export_count_in (f ∷ fs) = export_count_of f.form + export_count_in fs
+
+-- a module that is built: it has one export attribute, what it exports and calls is defined, and nothing is defined or
+-- exported twice
 pub record IsBuilt (all : Texts) (m : ModuleTree) : Type 0 where
+  pub forms : AreBuiltForms m.forms
+  pub one_export : export_count_in m.forms ≡ 1
   pub functions : IsDistinct (defined_in m.forms)
   pub exports : IsDistinct (exports_in m.forms)
   pub exported : Each (IsDefined all (defined_in m.forms)) (exports_in m.forms)
   pub bodies : Each (IsBuiltFunction all (defined_in m.forms)) (functions_in m.forms)
 
--- ---- limits
+-- ---- limits, as far as trees are built
 
 -- the most parameters, arguments, or the greatest arity of a function that is mentioned
 abbrev pub most_arguments : ℕ
@@ -162,6 +182,7 @@ abbrev mutual
   IsNarrowShape (call f es) = (count es ≤ most_arguments) × IsNarrow f × AreNarrow es
   IsNarrowShape (remote m f es) = (count es ≤ most_arguments) × IsNarrow m × IsNarrow f × AreNarrow es
   IsNarrowShape (case_of e cs) = IsNarrow e × AreNarrowClauses cs
+  IsNarrowShape _ = Unit {0}
 
   pub AreNarrow : Trees → Type 0
   AreNarrow end = Unit {0}

@@ -6,3 +6,8 @@ pub mod Ways
 pub mod Sure
 pub mod Weight
 pub mod Depth
+pub mod Roles
+pub mod Nodes
+pub mod Views
+pub mod Shown
+pub mod Extents

@@ -1,6 +1,6 @@
--- The names that an expression always binds: they are bound behind it, wherever it has a value. A name that is used is
--- bound there, too.
-use Rattle.ef_forms.specs.Tree.{Tree, Shape, Trees, Clauses, tree, int, atom, var, any, list, list_to, tuple, matching, call, remote, case_of, end, more, no_clauses, clause}
+-- The names that an expression always binds, as far as trees are built: they are bound behind it, wherever it has a
+-- value. A name that is used is bound there, too.
+use Rattle.ef_forms.specs.Tree.{Tree, Shape, Trees, Clauses, tree, var, list, list_to, tuple, matching, call, remote, case_of, end, more, no_clauses, clause}
 use Rattle.ef_forms.specs.Ways.{NameSet, no_names, one_name, union, common, names, all_names}
 
 abbrev mutual
@@ -8,10 +8,7 @@ abbrev mutual
   sure (tree p e) = shape_sure e
 
   pub shape_sure : Shape → NameSet
-  shape_sure (int i) = no_names
-  shape_sure (atom n) = no_names
   shape_sure (var n) = one_name n
-  shape_sure any = no_names
   shape_sure (list es) = all_sure es
   shape_sure (list_to es e) = union (all_sure es) (sure e)
   shape_sure (tuple es) = all_sure es
@@ -19,6 +16,7 @@ abbrev mutual
   shape_sure (call f es) = union (sure f) (all_sure es)
   shape_sure (remote m f es) = union (sure m) (union (sure f) (all_sure es))
   shape_sure (case_of e cs) = union (sure e) (clauses_sure cs)
+  shape_sure _ = no_names
 
   -- one after another, or side by side
   pub all_sure : Trees → NameSet

@@ -8,7 +8,7 @@ use Rattle.ef_base.specs.declared.fault.Place.{Place}
 use Rattle.ef_base.specs.declared.fault.Fault.{Fault}
 use Rattle.ef_base.specs.NamedFaults as fault
 use Rattle.ef_base.specs.Texts.{Texts, text}
-use Rattle.ef_forms.specs.Tree.{Tree, Shape, Trees, Guards, Clauses, FunctionTree, tree, int, atom, var, any, list, list_to, tuple, matching, call, remote, case_of, end, more, no_guard, or_guard, no_clauses, clause}
+use Rattle.ef_forms.specs.Tree.{Tree, Shape, Trees, Guards, Clauses, FunctionTree, tree, var, any, list, list_to, tuple, matching, call, remote, case_of, end, more, no_guard, or_guard, no_clauses, clause}
 
 -- a set of names, each by its number
 abbrev pub NameSet : Type 0
@@ -58,10 +58,7 @@ abbrev mutual
   names (tree p e) = shape_names e
 
   pub shape_names : Shape → NameSet
-  shape_names (int i) = no_names
-  shape_names (atom n) = no_names
   shape_names (var n) = one_name n
-  shape_names any = no_names
   shape_names (list es) = all_names es
   shape_names (list_to es e) = union (all_names es) (names e)
   shape_names (tuple es) = all_names es
@@ -69,6 +66,7 @@ abbrev mutual
   shape_names (call f es) = union (names f) (all_names es)
   shape_names (remote m f es) = union (names m) (union (names f) (all_names es))
   shape_names (case_of e cs) = union (names e) (clauses_names cs)
+  shape_names _ = no_names
 
   pub all_names : Trees → NameSet
   all_names end = no_names
@@ -88,10 +86,7 @@ abbrev mutual
   ways (tree p e) = shape_ways e
 
   pub shape_ways : Shape → Way
-  shape_ways (int i) = stay
-  shape_ways (atom n) = stay
   shape_ways (var n) = bind (one_name n)
-  shape_ways any = stay
   shape_ways (list es) = side_by_side es
   shape_ways (list_to es e) = beside (side_by_side es) (ways e)
   shape_ways (tuple es) = side_by_side es
@@ -101,6 +96,7 @@ abbrev mutual
   shape_ways (remote m f es) = beside (ways m) (beside (ways f) (side_by_side es))
   -- the clauses start behind the expression
   shape_ways (case_of e cs) = before (ways e) (clauses_ways cs)
+  shape_ways _ = stay
 
   pub side_by_side : Trees → Way
   side_by_side end = stay
@@ -151,10 +147,7 @@ module _ (all : Texts) where
     pattern_faults (tree p e) sets = pattern_shape_faults p e sets
 
     pub pattern_shape_faults : Place → Shape → List NameSet → List Fault
-    pattern_shape_faults p (int i) sets = []
-    pattern_shape_faults p (atom n) sets = []
     pattern_shape_faults p (var n) sets = name_faults p n sets
-    pattern_shape_faults p any sets = []
     pattern_shape_faults p (list es) sets = patterns_faults es sets
     pattern_shape_faults p (list_to es e) sets = patterns_faults es sets ++ pattern_faults e sets
     pattern_shape_faults p (tuple es) sets = patterns_faults es sets
@@ -162,6 +155,7 @@ module _ (all : Texts) where
     pattern_shape_faults p (call f es) sets = pattern_faults f sets ++ patterns_faults es sets
     pattern_shape_faults p (remote m f es) sets = pattern_faults m sets ++ (pattern_faults f sets ++ patterns_faults es sets)
     pattern_shape_faults p (case_of e cs) sets = pattern_faults e sets ++ pattern_clauses_faults cs sets
+    pattern_shape_faults p _ sets = []
 
     pub patterns_faults : Trees → List NameSet → List Fault
     patterns_faults end sets = []
@@ -181,8 +175,6 @@ module _ (all : Texts) where
     faults (tree p e) sets = shape_faults p e sets
 
     pub shape_faults : Place → Shape → List NameSet → List Fault
-    shape_faults p (int i) sets = []
-    shape_faults p (atom n) sets = []
     shape_faults p (var n) sets = use_faults p n sets
     -- `_` is never bound
     shape_faults p any sets = wildcard p ∷ []
@@ -193,6 +185,7 @@ module _ (all : Texts) where
     shape_faults p (call f es) sets = faults f sets ++ all_faults es sets
     shape_faults p (remote m f es) sets = faults m sets ++ (faults f sets ++ all_faults es sets)
     shape_faults p (case_of e cs) sets = faults e sets ++ clauses_faults cs (flat_map (ways e) sets)
+    shape_faults p _ sets = []
 
     pub all_faults : Trees → List NameSet → List Fault
     all_faults end sets = []

@@ -10,7 +10,7 @@ use Rattle.ef_base.specs.Laws.{extends_same}
 use Rattle.ef_token.specs.declared.token.Token.{Token}
 use Rattle.ef_token.specs.declared.token.ScannedForm.{ScannedForm}
 use Rattle.ef_scan.specs.Scan.{Form, Scans, ScansTo, IsScanned, AreOf}
-use Rattle.ef_forms.specs.Tree.{Clauses, FunctionTree, FormTree, PlacedTree, ModuleTree, module_name, export, function}
+use Rattle.ef_forms.specs.Tree.{Clauses, FunctionTree, FormTree, PlacedTree, ModuleTree, function}
 use Rattle.ef_forms.specs.Weight.{function_weight}
 use Rattle.ef_forms.specs.Built.{AreSome, Each, IsBuilt, functions_in, functions_of}
 use Rattle.ef_parse.specs.Grammar.{SpellsClauses, one_clause, and_clauses}
@@ -85,9 +85,8 @@ no_form_faults all (f ∷ fs) none =
     by_form f.form parts.0 (no_form_faults all fs parts.1)
   where
     by_form : (g : FormTree) → form_faults all g ≡ [] → Each (HasNoFault all) (functions_in fs) → Each (HasNoFault all) (functions_of g ++ functions_in fs)
-    by_form (module_name n) here rest = rest
-    by_form (export rs) here rest = rest
     by_form (function g) here rest = (here, rest)
+    by_form _ here rest = rest
 
 pub no_faults : (all : Texts) (m : ModuleTree) (faults : List Fault) → faults ≡ set_of (module_faults all m) → faults ≡ [] → Each (HasNoFault all) (functions_in m.forms)
 no_faults all m faults are none = no_form_faults all m.forms (set_none (module_faults all m) (sym are ∙ none))

@@ -1,4 +1,4 @@
--- Trees all of whose names have a property, which they take from the tokens that spell them.
+-- Trees all of whose names have a property, as far as trees are built, which they take from the tokens that spell them.
 use Rattle.std.proofs.Common.{ℕ, List, [], ◌∷◌, ◌++◌, map}
 use Rattle.ef_base.specs.declared.fault.Place.{Place}
 use Rattle.ef_base.specs.declared.name.Name.{Name}
@@ -41,6 +41,7 @@ module _ (Q : Name → Type 0) where
     ShapeOf (call f es) = TreeOf f × TreesOf es
     ShapeOf (remote m f es) = TreeOf m × TreeOf f × TreesOf es
     ShapeOf (case_of e cs) = TreeOf e × ClausesOf cs
+    ShapeOf _ = Unit {0}
 
     pub TreesOf : Trees → Type 0
     TreesOf end = Unit {0}
@@ -65,6 +66,7 @@ module _ (Q : Name → Type 0) where
   FormOf (module_name n) = Q n
   FormOf (export fs) = ReferencesOf fs
   FormOf (function f) = FunctionOf f
+  FormOf _ = Unit {0}
 
   abbrev pub FormsOf : List PlacedTree → Type 0
   FormsOf [] = Unit {0}
@@ -153,9 +155,8 @@ module _ (Q : Name → Type 0) where
   -- ---- from the forms to what they define and export
 
   functions_of_form : (f : FormTree) → FormOf f → Each FunctionOf (functions_of f)
-  functions_of_form (module_name n) h = tt
-  functions_of_form (export fs) h = tt
   functions_of_form (function g) h = (h, tt)
+  functions_of_form _ h = tt
 
   each_append : {A : Type 0} (P : A → Type 0) (xs ys : List A) → Each P xs → Each P ys → Each P (xs ++ ys)
   each_append P [] ys h k = k
@@ -180,9 +181,8 @@ module _ (Q : Name → Type 0) where
   names_of (f ∷ fs) h = (h.0, names_of fs h.1)
 
   exports_of_form : (f : FormTree) → FormOf f → Each KeyOf (exports_of f)
-  exports_of_form (module_name n) h = tt
   exports_of_form (export fs) h = names_of fs h
-  exports_of_form (function g) h = tt
+  exports_of_form _ h = tt
 
   pub all_exports : (fs : List PlacedTree) → FormsOf fs → Each KeyOf (exports_in fs)
   all_exports [] h = tt

@@ -15,12 +15,13 @@ use Rattle.ef_token.specs.declared.word.Sym.TheVariants as sy
 use Rattle.ef_token.specs.Lexeme.{Lexeme, IsKind, AreTokens, atom, variable, integer, character, string, word, symbol, full_stop}
 use Rattle.ef_scan.specs.Scan.{tokens, joined, ScansTo}
 use Rattle.ef_token.proofs.OneScan.{AreAlike, two_scans}
-use Rattle.ef_forms.specs.Tree.{FormTree, PlacedTree, ModuleTree, module_name, export, function}
+use Rattle.ef_forms.specs.Tree.{FormTree, PlacedTree, ModuleTree, export, function}
 use Rattle.ef_forms.specs.Built.{IsBuilt, functions_in, most_functions}
 use Rattle.ef_parse.specs.Grammar as g
 use Rattle.ef_parse.specs.Grammar.{token, start_of}
 use Rattle.ef_module.specs.Forms.{SpellsForm, SpellsForms, SpellsModule, IsInOrder, AreFunctions, arity_of, a_module_name, an_export, a_function}
-use Rattle.ef_front.proofs.Renaming.{Keeps, renamed_kind, renamed_token, renamed_clauses, renamed_reference, renamed_function, renamed_form, renamed_placed, renamed_module, same_start, same_arity, apart, narrow_form, spells_clauses, spells_reference_list}
+use Rattle.ef_forms.proofs.Renamed.{renamed_clauses, renamed_reference, renamed_function, renamed_form, renamed_placed, renamed_module}
+use Rattle.ef_front.proofs.Renaming.{Keeps, renamed_kind, renamed_token, same_start, same_arity, apart, narrow_form, spells_clauses, spells_reference_list}
 use Rattle.ef_front.proofs.OfNames.{KindOf, TokensOf, FormsOf, first, second, forms_of}
 use Rattle.ef_front.proofs.RenamedBuilt.{functions_renamed, built_module}
 use Rattle.ef_front.proofs.RenamedFaults.{faults_renamed}
@@ -57,9 +58,8 @@ module _ (r : Name → Name) where
   functions_stay (f ∷ fs) h = go (functions_stay fs) f.form h
     where
       go : (AreFunctions fs → AreFunctions (map (renamed_placed r) fs)) → (x : FormTree) → AreFunctions (record { place = f.place; form = x } ∷ fs) → AreFunctions (record { place = f.place; form = renamed_form r x } ∷ map (renamed_placed r) fs)
-      go behind (module_name n) h = absurd h.0
-      go behind (export refs) h = absurd h.0
       go behind (function k) h = (tt, behind h.1)
+      go behind _ h = absurd h.0
 
   order_stays : (name : Name) (fs : List PlacedTree) → IsInOrder name fs → IsInOrder (r name) (map (renamed_placed r) fs)
   order_stays name [] h = absurd h
@@ -68,9 +68,8 @@ module _ (r : Name → Name) where
     where
       go : (x : FormTree) → IsInOrder name (f ∷ record { place = k.place; form = x } ∷ fs)
           → IsInOrder (r name) (renamed_placed r f ∷ record { place = k.place; form = renamed_form r x } ∷ map (renamed_placed r) fs)
-      go (module_name n) h = absurd h.1
       go (export refs) h = (ap (renamed_form r) h.0, tt, functions_stay fs h.2)
-      go (function l) h = absurd h.1
+      go _ h = absurd h.1
 
 -- ---- forms under other names
 

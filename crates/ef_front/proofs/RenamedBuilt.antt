@@ -1,14 +1,15 @@
 -- A module that is built is built under other names of the same texts.
-use Rattle.std.proofs.Common.{◌≡◌, ◌≤◌, inl, inr, ℕ, List, [], ◌∷◌, ◌++◌, refl, sym, ap, ap₂, ◌∙◌, subst, subst₂, map}
+use Rattle.std.proofs.Common.{◌≡◌, ◌≤◌, ◌+◌, inl, inr, ℕ, List, [], ◌∷◌, ◌++◌, refl, sym, ap, ap₂, ◌∙◌, subst, subst₂, map}
 use Rattle.std.proofs.lemmas.List.{map-append}
 use Rattle.ef_base.specs.declared.name.Name.{Name}
 use Rattle.ef_base.specs.Texts.{Texts, AllDiffer, text}
 use Rattle.ef_base.specs.Laws.{same_name}
 use Rattle.ef_forms.specs.declared.form.FunctionRef.{FunctionRef}
 use Rattle.ef_forms.specs.declared.tables.FunctionName.{FunctionName}
-use Rattle.ef_forms.specs.Tree.{Tree, Shape, Trees, Clauses, FunctionTree, FormTree, PlacedTree, ModuleTree, tree, int, atom, var, any, list, list_to, tuple, matching, call, remote, case_of, end, more, no_guard, or_guard, no_clauses, clause, module_name, export, function, count}
-use Rattle.ef_forms.specs.Built.{Each, IsAmong, IsDistinct, IsDefined, IsModuleInfo, IsCallOf, IsForeignModule, IsAtom, IsPattern, IsPatternShape, ArePatterns, IsBuiltTree, IsBuiltShape, AreBuilt, AreBuiltClauses, AreSome, IsBuiltFunction, IsBuilt, name_of, key_of, functions_of, functions_in, exports_of, exports_in, defined_in}
-use Rattle.ef_front.proofs.Renaming.{renamed, renamed_shape, renamed_all, renamed_clauses, renamed_function, renamed_reference, renamed_key, renamed_form, renamed_placed, renamed_module, Keeps, same_count}
+use Rattle.ef_forms.specs.Tree.{Tree, Shape, Trees, Clauses, FunctionTree, FormTree, PlacedTree, ModuleTree, tree, int, atom, var, any, list, list_to, tuple, matching, call, remote, case_of, end, more, no_guard, or_guard, no_clauses, clause, module_name, export, dropped, function, count}
+use Rattle.ef_forms.specs.Built.{Each, IsAmong, IsDistinct, IsDefined, IsModuleInfo, IsCallOf, IsForeignModule, IsAtom, IsPattern, IsPatternShape, ArePatterns, IsBuiltTree, IsBuiltShape, AreBuilt, AreBuiltClauses, AreSome, IsBuiltFunction, IsBuiltForm, AreBuiltForms, export_count_of, export_count_in, IsBuilt, name_of, key_of, functions_of, functions_in, exports_of, exports_in, defined_in}
+use Rattle.ef_forms.proofs.Renamed.{renamed_tree, renamed_shape, renamed_all, renamed_clauses, renamed_function, renamed_reference, renamed_key, renamed_form, renamed_placed, renamed_module}
+use Rattle.ef_front.proofs.Renaming.{Keeps, same_count}
 use Rattle.ef_front.proofs.OfNames.{TreeOf, ShapeOf, TreesOf, ClausesOf, FunctionOf, KeyOf, FormsOf, all_functions, all_defined, all_exports}
 
 -- ---- lists
@@ -35,9 +36,8 @@ distinct_map f P (x ∷ xs) inj ps h = (λ among. h.0 (among_back f P x xs inj p
 
 module _ (r : Name → Name) where
   functions_of_renamed : (f : FormTree) → functions_of (renamed_form r f) ≡ map (renamed_function r) (functions_of f)
-  functions_of_renamed (module_name n) = refl
-  functions_of_renamed (export fs) = refl
   functions_of_renamed (function g) = refl
+  functions_of_renamed _ = refl
 
   pub functions_renamed : (fs : List PlacedTree) → functions_in (map (renamed_placed r) fs) ≡ map (renamed_function r) (functions_in fs)
   functions_renamed [] = refl
@@ -56,14 +56,34 @@ module _ (r : Name → Name) where
   names_renamed (f ∷ fs) = ap (λ ks. renamed_key r (name_of f) ∷ ks) (names_renamed fs)
 
   exports_of_renamed : (f : FormTree) → exports_of (renamed_form r f) ≡ map (renamed_key r) (exports_of f)
-  exports_of_renamed (module_name n) = refl
   exports_of_renamed (export fs) = names_renamed fs
-  exports_of_renamed (function g) = refl
+  exports_of_renamed _ = refl
 
   exports_renamed : (fs : List PlacedTree) → exports_in (map (renamed_placed r) fs) ≡ map (renamed_key r) (exports_in fs)
   exports_renamed [] = refl
   exports_renamed (f ∷ fs) =
       ap₂ (λ gs hs. gs ++ hs) (exports_of_renamed f.form) (exports_renamed fs) ∙ sym (map-append (renamed_key r) (exports_of f.form) (exports_in fs))
+
+  -- ---- the kinds of its forms
+
+  form_renamed : (f : FormTree) → IsBuiltForm f → IsBuiltForm (renamed_form r f)
+  form_renamed (module_name n) h = tt
+  form_renamed (export fs) h = tt
+  form_renamed dropped h = tt
+  form_renamed (function g) h = tt
+  form_renamed _ h = absurd h
+
+  forms_renamed : (fs : List PlacedTree) → AreBuiltForms fs → AreBuiltForms (map (renamed_placed r) fs)
+  forms_renamed [] h = tt
+  forms_renamed (f ∷ fs) h = (form_renamed f.form h.0, forms_renamed fs h.1)
+
+  count_of_renamed : (f : FormTree) → export_count_of (renamed_form r f) ≡ export_count_of f
+  count_of_renamed (export fs) = refl
+  count_of_renamed _ = refl
+
+  count_renamed : (fs : List PlacedTree) → export_count_in (map (renamed_placed r) fs) ≡ export_count_in fs
+  count_renamed [] = refl
+  count_renamed (f ∷ fs) = ap₂ (λ n m. n + m) (count_of_renamed f.form) (count_renamed fs)
 
 -- ---- tables
 
@@ -91,47 +111,20 @@ module _ (a b : Texts) (r : Name → Name) (differ : AllDiffer b) where
   each_defined defined [] ks h = tt
   each_defined defined (f ∷ fs) ks h = (is_defined defined f ks.0 h.0, each_defined defined fs ks.1 h.1)
 
-  call_of : (defined : List FunctionName) (f : Tree) (n : ℕ) → TreeOf (Keeps a b r) f → IsCallOf b defined f n → IsCallOf a (map (renamed_key r) defined) (renamed r f) n
+  call_of : (defined : List FunctionName) (f : Tree) (n : ℕ) → TreeOf (Keeps a b r) f → IsCallOf b defined f n → IsCallOf a (map (renamed_key r) defined) (renamed_tree r f) n
   call_of defined (tree p (atom m)) n k h = is_defined defined (record { name = m; arity = n }) k h
-  call_of defined (tree p (int i)) n k h = absurd h
-  call_of defined (tree p (var m)) n k h = absurd h
-  call_of defined (tree p any) n k h = absurd h
-  call_of defined (tree p (list es)) n k h = absurd h
-  call_of defined (tree p (list_to es e)) n k h = absurd h
-  call_of defined (tree p (tuple es)) n k h = absurd h
-  call_of defined (tree p (matching l e)) n k h = absurd h
-  call_of defined (tree p (call f es)) n k h = absurd h
-  call_of defined (tree p (remote m f es)) n k h = absurd h
-  call_of defined (tree p (case_of e cs)) n k h = absurd h
+  call_of defined (tree p _) n k h = absurd h
 
-  foreign : (f : Tree) → TreeOf (Keeps a b r) f → IsForeignModule b f → IsForeignModule a (renamed r f)
+  foreign : (f : Tree) → TreeOf (Keeps a b r) f → IsForeignModule b f → IsForeignModule a (renamed_tree r f)
   foreign (tree p (atom m)) k h = λ e. h (sym k.same ∙ e)
-  foreign (tree p (int i)) k h = absurd h
-  foreign (tree p (var m)) k h = absurd h
-  foreign (tree p any) k h = absurd h
-  foreign (tree p (list es)) k h = absurd h
-  foreign (tree p (list_to es e)) k h = absurd h
-  foreign (tree p (tuple es)) k h = absurd h
-  foreign (tree p (matching l e)) k h = absurd h
-  foreign (tree p (call f es)) k h = absurd h
-  foreign (tree p (remote m f es)) k h = absurd h
-  foreign (tree p (case_of e cs)) k h = absurd h
+  foreign (tree p _) k h = absurd h
 
-  is_atom : (f : Tree) → IsAtom f → IsAtom (renamed r f)
+  is_atom : (f : Tree) → IsAtom f → IsAtom (renamed_tree r f)
   is_atom (tree p (atom m)) h = tt
-  is_atom (tree p (int i)) h = absurd h
-  is_atom (tree p (var m)) h = absurd h
-  is_atom (tree p any) h = absurd h
-  is_atom (tree p (list es)) h = absurd h
-  is_atom (tree p (list_to es e)) h = absurd h
-  is_atom (tree p (tuple es)) h = absurd h
-  is_atom (tree p (matching l e)) h = absurd h
-  is_atom (tree p (call f es)) h = absurd h
-  is_atom (tree p (remote m f es)) h = absurd h
-  is_atom (tree p (case_of e cs)) h = absurd h
+  is_atom (tree p _) h = absurd h
 
   mutual
-    pattern : (e : Tree) → IsPattern e → IsPattern (renamed r e)
+    pattern : (e : Tree) → IsPattern e → IsPattern (renamed_tree r e)
     pattern (tree p e) h = pattern_shape e h
 
     pattern_shape : (e : Shape) → IsPatternShape e → IsPatternShape (renamed_shape r e)
@@ -142,10 +135,7 @@ module _ (a b : Texts) (r : Name → Name) (differ : AllDiffer b) where
     pattern_shape (list es) h = patterns es h
     pattern_shape (list_to es e) h = (patterns es h.0, pattern e h.1)
     pattern_shape (tuple es) h = patterns es h
-    pattern_shape (matching p e) h = absurd h
-    pattern_shape (call f es) h = absurd h
-    pattern_shape (remote m f es) h = absurd h
-    pattern_shape (case_of e cs) h = absurd h
+    pattern_shape _ h = absurd h
 
     patterns : (es : Trees) → ArePatterns es → ArePatterns (renamed_all r es)
     patterns end h = tt
@@ -157,7 +147,7 @@ module _ (a b : Texts) (r : Name → Name) (differ : AllDiffer b) where
 
   module _ (defined : List FunctionName) where
     mutual
-      built : (e : Tree) → TreeOf (Keeps a b r) e → IsBuiltTree b defined e → IsBuiltTree a (map (renamed_key r) defined) (renamed r e)
+      built : (e : Tree) → TreeOf (Keeps a b r) e → IsBuiltTree b defined e → IsBuiltTree a (map (renamed_key r) defined) (renamed_tree r e)
       built (tree p e) k h = built_shape e k h
 
       built_shape : (e : Shape) → ShapeOf (Keeps a b r) e → IsBuiltShape b defined e → IsBuiltShape a (map (renamed_key r) defined) (renamed_shape r e)
@@ -170,9 +160,10 @@ module _ (a b : Texts) (r : Name → Name) (differ : AllDiffer b) where
       built_shape (tuple es) k h = built_all es k h
       built_shape (matching p e) k h = (pattern p h.0, built e k.1 h.1)
       built_shape (call f es) k h =
-          (subst (IsCallOf a (map (renamed_key r) defined) (renamed r f)) (sym (same_count r es)) (call_of defined f (count es) k.0 h.0), built_all es k.1 h.1)
+          (subst (IsCallOf a (map (renamed_key r) defined) (renamed_tree r f)) (sym (same_count r es)) (call_of defined f (count es) k.0 h.0), built_all es k.1 h.1)
       built_shape (remote m f es) k h = (foreign m k.0 h.0, is_atom f h.1, built_all es k.2 h.2)
       built_shape (case_of e cs) k h = (built e k.0 h.0, some_renamed cs h.1, built_clauses 1 cs k.1 h.2)
+      built_shape _ k h = absurd h
 
       built_all : (es : Trees) → TreesOf (Keeps a b r) es → AreBuilt b defined es → AreBuilt a (map (renamed_key r) defined) (renamed_all r es)
       built_all end k h = tt
@@ -195,6 +186,8 @@ module _ (a b : Texts) (r : Name → Name) (differ : AllDiffer b) where
       let exported = exports_renamed r m.forms in
       let known = all_exports (Keeps a b r) m.forms k in
       record {
+        forms = forms_renamed r m.forms h.forms;
+        one_export = count_renamed r m.forms ∙ h.one_export;
         functions = subst IsDistinct (sym defined)
             (distinct_map (renamed_key r) (KeyOf (Keeps a b r)) (defined_in m.forms) keys_injective (all_defined (Keeps a b r) m.forms k) h.functions);
         exports = subst IsDistinct (sym exported) (distinct_map (renamed_key r) (KeyOf (Keeps a b r)) (exports_in m.forms) keys_injective known h.exports);

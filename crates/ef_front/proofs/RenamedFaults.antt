@@ -5,10 +5,11 @@ use Rattle.std.proofs.lemmas.Bool.Decides.{Decides-eqb}
 use Rattle.ef_base.specs.declared.fault.Place.{Place}
 use Rattle.ef_base.specs.declared.name.Name.{Name}
 use Rattle.ef_base.specs.Texts.{Texts, AllDiffer}
-use Rattle.ef_forms.specs.Tree.{Tree, Shape, Trees, Guards, Clauses, FormTree, PlacedTree, tree, int, atom, var, any, list, list_to, tuple, matching, call, remote, case_of, end, more, no_guard, or_guard, no_clauses, clause, module_name, export, function}
+use Rattle.ef_forms.specs.Tree.{Tree, Shape, Trees, Guards, Clauses, FormTree, PlacedTree, tree, var, any, list, list_to, tuple, matching, call, remote, case_of, end, more, no_guard, or_guard, no_clauses, clause, function}
 use Rattle.ef_forms.specs.Ways.{NameSet, Way, no_names, one_name, union, bind, or_else, before, beside, ways, shape_ways, side_by_side, body_ways, clauses_ways, names, shape_names, all_names, guards_names, clauses_names, on_some, on_all, use_faults, name_faults, pattern_faults, pattern_shape_faults, patterns_faults, pattern_guards_faults, pattern_clauses_faults, faults, shape_faults, all_faults, body_faults, guards_faults, clauses_faults}
 use Rattle.ef_front.specs.Source.{form_faults, forms_faults}
-use Rattle.ef_front.proofs.Renaming.{Keeps, renamed, renamed_shape, renamed_all, renamed_guards, renamed_clauses, renamed_form, renamed_placed}
+use Rattle.ef_forms.proofs.Renamed.{renamed_tree, renamed_shape, renamed_all, renamed_guards, renamed_clauses, renamed_form, renamed_placed}
+use Rattle.ef_front.proofs.Renaming.{Keeps}
 use Rattle.ef_front.proofs.OfNames.{TreeOf, ShapeOf, TreesOf, GuardsOf, ClausesOf, FormOf, FormsOf}
 use Rattle.ef_front.proofs.RenamedBuilt.{injective}
 
@@ -74,31 +75,29 @@ module _ (a b : Texts) (r : Name → Name) (differ : AllDiffer b) where
   alike_or_else f g h k one two = λ s t e. alike_append (f s) (g t) (h s) (k t) (one s t e) (two s t e)
 
   mutual
-    names_alike : (e : Tree) → TreeOf (Keeps a b r) e → Alike (names (renamed r e)) (names e)
+    names_alike : (e : Tree) → TreeOf (Keeps a b r) e → Alike (names (renamed_tree r e)) (names e)
     names_alike (tree p e) k = shape_names_alike e k
 
     shape_names_alike : (e : Shape) → ShapeOf (Keeps a b r) e → Alike (shape_names (renamed_shape r e)) (shape_names e)
-    shape_names_alike (int i) k = λ n l. refl
-    shape_names_alike (atom m) k = λ n l. refl
     shape_names_alike (var m) k = alike_one m k
-    shape_names_alike any k = λ n l. refl
     shape_names_alike (list es) k = all_names_alike es k
     shape_names_alike (list_to es e) k =
-        alike_union (all_names (renamed_all r es)) (all_names es) (names (renamed r e)) (names e) (all_names_alike es k.0) (names_alike e k.1)
+        alike_union (all_names (renamed_all r es)) (all_names es) (names (renamed_tree r e)) (names e) (all_names_alike es k.0) (names_alike e k.1)
     shape_names_alike (tuple es) k = all_names_alike es k
-    shape_names_alike (matching p e) k = alike_union (names (renamed r p)) (names p) (names (renamed r e)) (names e) (names_alike p k.0) (names_alike e k.1)
+    shape_names_alike (matching p e) k = alike_union (names (renamed_tree r p)) (names p) (names (renamed_tree r e)) (names e) (names_alike p k.0) (names_alike e k.1)
     shape_names_alike (call f es) k =
-        alike_union (names (renamed r f)) (names f) (all_names (renamed_all r es)) (all_names es) (names_alike f k.0) (all_names_alike es k.1)
+        alike_union (names (renamed_tree r f)) (names f) (all_names (renamed_all r es)) (all_names es) (names_alike f k.0) (all_names_alike es k.1)
     shape_names_alike (remote m f es) k =
-        alike_union (names (renamed r m)) (names m) (union (names (renamed r f)) (all_names (renamed_all r es))) (union (names f) (all_names es)) (names_alike m k.0)
-        (alike_union (names (renamed r f)) (names f) (all_names (renamed_all r es)) (all_names es) (names_alike f k.1) (all_names_alike es k.2))
+        alike_union (names (renamed_tree r m)) (names m) (union (names (renamed_tree r f)) (all_names (renamed_all r es))) (union (names f) (all_names es)) (names_alike m k.0)
+        (alike_union (names (renamed_tree r f)) (names f) (all_names (renamed_all r es)) (all_names es) (names_alike f k.1) (all_names_alike es k.2))
     shape_names_alike (case_of e cs) k =
-        alike_union (names (renamed r e)) (names e) (clauses_names (renamed_clauses r cs)) (clauses_names cs) (names_alike e k.0) (clauses_names_alike cs k.1)
+        alike_union (names (renamed_tree r e)) (names e) (clauses_names (renamed_clauses r cs)) (clauses_names cs) (names_alike e k.0) (clauses_names_alike cs k.1)
+    shape_names_alike _ k = λ n l. refl
 
     all_names_alike : (es : Trees) → TreesOf (Keeps a b r) es → Alike (all_names (renamed_all r es)) (all_names es)
     all_names_alike end k = λ n l. refl
     all_names_alike (more e es) k =
-        alike_union (names (renamed r e)) (names e) (all_names (renamed_all r es)) (all_names es) (names_alike e k.0) (all_names_alike es k.1)
+        alike_union (names (renamed_tree r e)) (names e) (all_names (renamed_all r es)) (all_names es) (names_alike e k.0) (all_names_alike es k.1)
 
     guards_names_alike : (gs : Guards) → GuardsOf (Keeps a b r) gs → Alike (guards_names (renamed_guards r gs)) (guards_names gs)
     guards_names_alike no_guard k = λ n l. refl
@@ -115,38 +114,36 @@ module _ (a b : Texts) (r : Name → Name) (differ : AllDiffer b) where
         (guards_names_alike g k.1) behind_guard)
 
   mutual
-    ways_alike : (e : Tree) → TreeOf (Keeps a b r) e → WaysAlike (ways (renamed r e)) (ways e)
+    ways_alike : (e : Tree) → TreeOf (Keeps a b r) e → WaysAlike (ways (renamed_tree r e)) (ways e)
     ways_alike (tree p e) k = shape_ways_alike e k
 
     shape_ways_alike : (e : Shape) → ShapeOf (Keeps a b r) e → WaysAlike (shape_ways (renamed_shape r e)) (shape_ways e)
-    shape_ways_alike (int i) k = λ s t h. (h, tt)
-    shape_ways_alike (atom m) k = λ s t h. (h, tt)
     shape_ways_alike (var m) k = alike_bind (one_name (r m)) (one_name m) (alike_one m k)
-    shape_ways_alike any k = λ s t h. (h, tt)
     shape_ways_alike (list es) k = side_alike es k
     shape_ways_alike (list_to es e) k =
-        alike_beside (side_by_side (renamed_all r es)) (side_by_side es) (ways (renamed r e)) (ways e) (side_alike es k.0) (ways_alike e k.1)
+        alike_beside (side_by_side (renamed_all r es)) (side_by_side es) (ways (renamed_tree r e)) (ways e) (side_alike es k.0) (ways_alike e k.1)
     shape_ways_alike (tuple es) k = side_alike es k
     shape_ways_alike (matching p e) k =
-        alike_before (ways (renamed r e)) (ways e) (bind (names (renamed r p))) (bind (names p)) (ways_alike e k.1)
-        (alike_bind (names (renamed r p)) (names p) (names_alike p k.0))
+        alike_before (ways (renamed_tree r e)) (ways e) (bind (names (renamed_tree r p))) (bind (names p)) (ways_alike e k.1)
+        (alike_bind (names (renamed_tree r p)) (names p) (names_alike p k.0))
     shape_ways_alike (call f es) k =
-        alike_beside (ways (renamed r f)) (ways f) (side_by_side (renamed_all r es)) (side_by_side es) (ways_alike f k.0) (side_alike es k.1)
+        alike_beside (ways (renamed_tree r f)) (ways f) (side_by_side (renamed_all r es)) (side_by_side es) (ways_alike f k.0) (side_alike es k.1)
     shape_ways_alike (remote m f es) k =
-        alike_beside (ways (renamed r m)) (ways m) (beside (ways (renamed r f)) (side_by_side (renamed_all r es))) (beside (ways f) (side_by_side es)) (ways_alike m k.0)
-        (alike_beside (ways (renamed r f)) (ways f) (side_by_side (renamed_all r es)) (side_by_side es) (ways_alike f k.1) (side_alike es k.2))
+        alike_beside (ways (renamed_tree r m)) (ways m) (beside (ways (renamed_tree r f)) (side_by_side (renamed_all r es))) (beside (ways f) (side_by_side es)) (ways_alike m k.0)
+        (alike_beside (ways (renamed_tree r f)) (ways f) (side_by_side (renamed_all r es)) (side_by_side es) (ways_alike f k.1) (side_alike es k.2))
     shape_ways_alike (case_of e cs) k =
-        alike_before (ways (renamed r e)) (ways e) (clauses_ways (renamed_clauses r cs)) (clauses_ways cs) (ways_alike e k.0) (clauses_ways_alike cs k.1)
+        alike_before (ways (renamed_tree r e)) (ways e) (clauses_ways (renamed_clauses r cs)) (clauses_ways cs) (ways_alike e k.0) (clauses_ways_alike cs k.1)
+    shape_ways_alike _ k = λ s t h. (h, tt)
 
     side_alike : (es : Trees) → TreesOf (Keeps a b r) es → WaysAlike (side_by_side (renamed_all r es)) (side_by_side es)
     side_alike end k = λ s t h. (h, tt)
     side_alike (more e es) k =
-        alike_beside (ways (renamed r e)) (ways e) (side_by_side (renamed_all r es)) (side_by_side es) (ways_alike e k.0) (side_alike es k.1)
+        alike_beside (ways (renamed_tree r e)) (ways e) (side_by_side (renamed_all r es)) (side_by_side es) (ways_alike e k.0) (side_alike es k.1)
 
     body_ways_alike : (es : Trees) → TreesOf (Keeps a b r) es → WaysAlike (body_ways (renamed_all r es)) (body_ways es)
     body_ways_alike end k = λ s t h. (h, tt)
     body_ways_alike (more e es) k =
-        alike_before (ways (renamed r e)) (ways e) (body_ways (renamed_all r es)) (body_ways es) (ways_alike e k.0) (body_ways_alike es k.1)
+        alike_before (ways (renamed_tree r e)) (ways e) (body_ways (renamed_all r es)) (body_ways es) (ways_alike e k.0) (body_ways_alike es k.1)
 
     clauses_ways_alike : (cs : Clauses) → ClausesOf (Keeps a b r) cs → WaysAlike (clauses_ways (renamed_clauses r cs)) (clauses_ways cs)
     clauses_ways_alike no_clauses k = λ s t h. (h, tt)
@@ -184,18 +181,15 @@ module _ (a b : Texts) (r : Name → Name) (differ : AllDiffer b) where
   both : {A : Type 0} {xs ys us vs : List A} → xs ≡ ys → us ≡ vs → xs ++ us ≡ ys ++ vs
   both e f = ap₂ (λ x y. x ++ y) e f
 
-  behind : (e : Tree) (ss ts : List NameSet) → TreeOf (Keeps a b r) e → AllAlike ss ts → AllAlike (flat_map (ways (renamed r e)) ss) (flat_map (ways e) ts)
-  behind e ss ts k h = alike_flat (ways (renamed r e)) (ways e) ss ts (ways_alike e k) h
+  behind : (e : Tree) (ss ts : List NameSet) → TreeOf (Keeps a b r) e → AllAlike ss ts → AllAlike (flat_map (ways (renamed_tree r e)) ss) (flat_map (ways e) ts)
+  behind e ss ts k h = alike_flat (ways (renamed_tree r e)) (ways e) ss ts (ways_alike e k) h
 
   mutual
-    pattern_alike : (e : Tree) (ss ts : List NameSet) → TreeOf (Keeps a b r) e → AllAlike ss ts → pattern_faults a (renamed r e) ss ≡ pattern_faults b e ts
+    pattern_alike : (e : Tree) (ss ts : List NameSet) → TreeOf (Keeps a b r) e → AllAlike ss ts → pattern_faults a (renamed_tree r e) ss ≡ pattern_faults b e ts
     pattern_alike (tree p e) ss ts k h = pattern_shape_alike p e ss ts k h
 
     pattern_shape_alike : (p : Place) (e : Shape) (ss ts : List NameSet) → ShapeOf (Keeps a b r) e → AllAlike ss ts → pattern_shape_faults a p (renamed_shape r e) ss ≡ pattern_shape_faults b p e ts
-    pattern_shape_alike p (int i) ss ts k h = refl
-    pattern_shape_alike p (atom n) ss ts k h = refl
     pattern_shape_alike p (var n) ss ts k h = name_alike p n ss ts k h
-    pattern_shape_alike p any ss ts k h = refl
     pattern_shape_alike p (list es) ss ts k h = patterns_alike es ss ts k h
     pattern_shape_alike p (list_to es e) ss ts k h = both (patterns_alike es ss ts k.0 h) (pattern_alike e ss ts k.1 h)
     pattern_shape_alike p (tuple es) ss ts k h = patterns_alike es ss ts k h
@@ -203,6 +197,7 @@ module _ (a b : Texts) (r : Name → Name) (differ : AllDiffer b) where
     pattern_shape_alike p (call f es) ss ts k h = both (pattern_alike f ss ts k.0 h) (patterns_alike es ss ts k.1 h)
     pattern_shape_alike p (remote m f es) ss ts k h = both (pattern_alike m ss ts k.0 h) (both (pattern_alike f ss ts k.1 h) (patterns_alike es ss ts k.2 h))
     pattern_shape_alike p (case_of e cs) ss ts k h = both (pattern_alike e ss ts k.0 h) (pattern_clauses_alike cs ss ts k.1 h)
+    pattern_shape_alike p _ ss ts k h = refl
 
     patterns_alike : (es : Trees) (ss ts : List NameSet) → TreesOf (Keeps a b r) es → AllAlike ss ts → patterns_faults a (renamed_all r es) ss ≡ patterns_faults b es ts
     patterns_alike end ss ts k h = refl
@@ -218,24 +213,23 @@ module _ (a b : Texts) (r : Name → Name) (differ : AllDiffer b) where
         both (patterns_alike ps ss ts k.0 h) (both (pattern_guards_alike g ss ts k.1 h) (both (patterns_alike body ss ts k.2 h) (pattern_clauses_alike cs ss ts k.3 h)))
 
   mutual
-    faults_alike : (e : Tree) (ss ts : List NameSet) → TreeOf (Keeps a b r) e → AllAlike ss ts → faults a (renamed r e) ss ≡ faults b e ts
+    faults_alike : (e : Tree) (ss ts : List NameSet) → TreeOf (Keeps a b r) e → AllAlike ss ts → faults a (renamed_tree r e) ss ≡ faults b e ts
     faults_alike (tree p e) ss ts k h = shape_faults_alike p e ss ts k h
 
     shape_faults_alike : (p : Place) (e : Shape) (ss ts : List NameSet) → ShapeOf (Keeps a b r) e → AllAlike ss ts → shape_faults a p (renamed_shape r e) ss ≡ shape_faults b p e ts
-    shape_faults_alike p (int i) ss ts k h = refl
-    shape_faults_alike p (atom n) ss ts k h = refl
     shape_faults_alike p (var n) ss ts k h = use_alike p n ss ts k h
     shape_faults_alike p any ss ts k h = refl
     shape_faults_alike p (list es) ss ts k h = all_faults_alike es ss ts k h
     shape_faults_alike p (list_to es e) ss ts k h = both (all_faults_alike es ss ts k.0 h) (faults_alike e ss ts k.1 h)
     shape_faults_alike p (tuple es) ss ts k h = all_faults_alike es ss ts k h
     shape_faults_alike p (matching q e) ss ts k h =
-        both (faults_alike e ss ts k.1 h) (pattern_alike q (flat_map (ways (renamed r e)) ss) (flat_map (ways e) ts) k.0 (behind e ss ts k.1 h))
+        both (faults_alike e ss ts k.1 h) (pattern_alike q (flat_map (ways (renamed_tree r e)) ss) (flat_map (ways e) ts) k.0 (behind e ss ts k.1 h))
     shape_faults_alike p (call f es) ss ts k h = both (faults_alike f ss ts k.0 h) (all_faults_alike es ss ts k.1 h)
     shape_faults_alike p (remote m f es) ss ts k h =
         both (faults_alike m ss ts k.0 h) (both (faults_alike f ss ts k.1 h) (all_faults_alike es ss ts k.2 h))
     shape_faults_alike p (case_of e cs) ss ts k h =
-        both (faults_alike e ss ts k.0 h) (clauses_alike cs (flat_map (ways (renamed r e)) ss) (flat_map (ways e) ts) k.1 (behind e ss ts k.0 h))
+        both (faults_alike e ss ts k.0 h) (clauses_alike cs (flat_map (ways (renamed_tree r e)) ss) (flat_map (ways e) ts) k.1 (behind e ss ts k.0 h))
+    shape_faults_alike p _ ss ts k h = refl
 
     all_faults_alike : (es : Trees) (ss ts : List NameSet) → TreesOf (Keeps a b r) es → AllAlike ss ts → all_faults a (renamed_all r es) ss ≡ all_faults b es ts
     all_faults_alike end ss ts k h = refl
@@ -244,7 +238,7 @@ module _ (a b : Texts) (r : Name → Name) (differ : AllDiffer b) where
     body_alike : (es : Trees) (ss ts : List NameSet) → TreesOf (Keeps a b r) es → AllAlike ss ts → body_faults a (renamed_all r es) ss ≡ body_faults b es ts
     body_alike end ss ts k h = refl
     body_alike (more e es) ss ts k h =
-        both (faults_alike e ss ts k.0 h) (body_alike es (flat_map (ways (renamed r e)) ss) (flat_map (ways e) ts) k.1 (behind e ss ts k.0 h))
+        both (faults_alike e ss ts k.0 h) (body_alike es (flat_map (ways (renamed_tree r e)) ss) (flat_map (ways e) ts) k.1 (behind e ss ts k.0 h))
 
     guards_alike : (gs : Guards) (ss ts : List NameSet) → GuardsOf (Keeps a b r) gs → AllAlike ss ts → guards_faults a (renamed_guards r gs) ss ≡ guards_faults b gs ts
     guards_alike no_guard ss ts k h = refl
@@ -261,9 +255,8 @@ module _ (a b : Texts) (r : Name → Name) (differ : AllDiffer b) where
         both (patterns_alike ps ss ts k.0 h) (both (guards_alike g us vs k.1 inside) (both (body_alike body us vs k.2 inside) (clauses_alike cs ss ts k.3 h)))
 
   form_alike : (f : FormTree) → FormOf (Keeps a b r) f → form_faults a (renamed_form r f) ≡ form_faults b f
-  form_alike (module_name n) k = refl
-  form_alike (export refs) k = refl
   form_alike (function f) k = clauses_alike f.clauses (no_names ∷ []) (no_names ∷ []) k.1 ((λ n l. refl), tt)
+  form_alike _ k = refl
 
   pub faults_renamed : (fs : List PlacedTree) → FormsOf (Keeps a b r) fs → forms_faults a (map (renamed_placed r) fs) ≡ forms_faults b fs
   faults_renamed [] k = refl

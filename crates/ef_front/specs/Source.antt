@@ -7,7 +7,7 @@ use Rattle.ef_base.specs.NamedFaults as fault
 use Rattle.ef_base.specs.Texts.{Texts, AllDiffer, AllUtf8, Extends}
 use Rattle.ef_token.specs.declared.token.Token.{Token}
 use Rattle.ef_scan.specs.Scan.{Form, tokens, faulty, Scans, ScansTo}
-use Rattle.ef_forms.specs.Tree.{FormTree, PlacedTree, ModuleTree, module_name, export, function}
+use Rattle.ef_forms.specs.Tree.{FormTree, PlacedTree, ModuleTree, function}
 use Rattle.ef_forms.specs.Built.{IsBuilt}
 use Rattle.ef_forms.specs.Ways.{function_faults}
 use Rattle.ef_module.specs.Forms.{SpellsModule}
@@ -23,9 +23,8 @@ pub record IsSource (all : Texts) (source : List ℕ) (m : ModuleTree) : Type 0 
 
 -- the faults of a module: those of its functions
 abbrev pub form_faults : Texts → FormTree → List Fault
-form_faults all (module_name n) = []
-form_faults all (export refs) = []
 form_faults all (function f) = function_faults all f
+form_faults all _ = []
 
 abbrev pub forms_faults : Texts → List PlacedTree → List Fault
 forms_faults all fs = flat_map (λ (f : PlacedTree). form_faults all f.form) fs

@@ -22,7 +22,7 @@ use Rattle.ef_forms.specs.Plain.{trees}
 use Rattle.ef_forms.specs.Sure.{all_sure, sure}
 use Rattle.ef_forms.specs.Tree as t
 use Rattle.ef_forms.specs.Tree.{Tree, tree}
-use Rattle.ef_forms.proofs.Depths.{some_depth}
+use Rattle.ef_lowpat.proofs.Depths.{some_depth}
 use Rattle.ef_meaning.specs.Lowers.{AreBelow}
 use Rattle.ef_meaning.proofs.Matches.{held_keeps}
 use Rattle.ef_meaning.proofs.Parts.{both_keep, nil_keeps, one_step, put_keeps}

@@ -24,7 +24,7 @@ use Rattle.ef_forms.specs.Sure.{clauses_sure, sure}
 use Rattle.ef_forms.specs.Tree as t
 use Rattle.ef_forms.specs.Tree.{Tree, tree}
 use Rattle.ef_forms.specs.Ways.{union}
-use Rattle.ef_forms.proofs.Depths.{some_depth}
+use Rattle.ef_lowpat.proofs.Depths.{some_depth}
 use Rattle.ef_meaning.specs.Cases.{FailsValue, last_clause, names_of, whole_case}
 use Rattle.ef_meaning.specs.Exception.{case_clause}
 use Rattle.ef_meaning.specs.Lowers.{KeepsExpr, env_from, params_from}

@@ -5,7 +5,7 @@ use Rattle.ef_base.specs.declared.name.Name.{Name}
 use Rattle.ef_base.specs.declared.fault.Place.{Place}
 use Rattle.ef_base.specs.Texts.{Texts}
 use Rattle.ef_forms.specs.Sure.{sure}
-use Rattle.ef_forms.specs.Tree.{Tree, Trees, Guards, Clauses, tree, int, atom, var, any, list, list_to, tuple, matching, call, remote, case_of, end, more, no_guard, or_guard, no_clauses, clause}
+use Rattle.ef_forms.specs.Tree.{Tree, Trees, Guards, Clauses, tree, var, any, list, list_to, tuple, matching, call, remote, case_of, end, more, no_guard, or_guard, no_clauses, clause}
 use Rattle.ef_forms.specs.Ways.{NameSet, Way, union, bind, all_names, ways, on_some, on_all, unbound, unsafe, use_faults, name_faults, pattern_faults, patterns_faults, pattern_guards_faults, pattern_clauses_faults, faults, all_faults, body_faults, guards_faults, clauses_faults}
 use Rattle.ef_forms.proofs.Bools.{and_true, or_false}
 use Rattle.ef_forms.proofs.Grows.{grows_ways, grows_body}
@@ -124,10 +124,7 @@ module _ (all : Texts) where
 
   mutual
     safer_pattern : (e : Tree) (a b : List NameSet) → Safer a b → pattern_faults all e b ≡ [] → pattern_faults all e a ≡ []
-    safer_pattern (tree p (int i)) a b w h = refl
-    safer_pattern (tree p (atom n)) a b w h = refl
     safer_pattern (tree p (var n)) a b w h = safer_names p n a b w h
-    safer_pattern (tree p any) a b w h = refl
     safer_pattern (tree p (list es)) a b w h = safer_patterns es a b w h
     safer_pattern (tree p (list_to es e)) a b w h = both_none _ _ _ _ (safer_patterns es a b w) (safer_pattern e a b w) h
     safer_pattern (tree p (tuple es)) a b w h = safer_patterns es a b w h
@@ -135,6 +132,7 @@ module _ (all : Texts) where
     safer_pattern (tree p (call f es)) a b w h = both_none _ _ _ _ (safer_pattern f a b w) (safer_patterns es a b w) h
     safer_pattern (tree p (remote m f es)) a b w h = both_none _ _ _ _ (safer_pattern m a b w) (both_none _ _ _ _ (safer_pattern f a b w) (safer_patterns es a b w)) h
     safer_pattern (tree p (case_of e cs)) a b w h = both_none _ _ _ _ (safer_pattern e a b w) (safer_pattern_clauses cs a b w) h
+    safer_pattern (tree p _) a b w h = refl
 
     safer_patterns : (es : Trees) (a b : List NameSet) → Safer a b → patterns_faults all es b ≡ [] → patterns_faults all es a ≡ []
     safer_patterns end a b w h = refl
@@ -152,8 +150,6 @@ module _ (all : Texts) where
 
   mutual
     pub safer_faults : (e : Tree) (a b : List NameSet) → Safer a b → faults all e b ≡ [] → faults all e a ≡ []
-    safer_faults (tree p (int i)) a b w h = refl
-    safer_faults (tree p (atom n)) a b w h = refl
     safer_faults (tree p (var n)) a b w h = safer_uses p n a b w h
     safer_faults (tree p any) a b w h = absurd (cc)
     safer_faults (tree p (list es)) a b w h = safer_all es a b w h
@@ -163,6 +159,7 @@ module _ (all : Texts) where
     safer_faults (tree p (call f es)) a b w h = both_none _ _ _ _ (safer_faults f a b w) (safer_all es a b w) h
     safer_faults (tree p (remote m f es)) a b w h = both_none _ _ _ _ (safer_faults m a b w) (both_none _ _ _ _ (safer_faults f a b w) (safer_all es a b w)) h
     safer_faults (tree p (case_of e cs)) a b w h = both_none _ _ _ _ (safer_faults e a b w) (safer_clauses cs _ _ (safer_after _ _ _ (grows_ways e) a b w)) h
+    safer_faults (tree p _) a b w h = refl
 
     safer_all : (es : Trees) (a b : List NameSet) → Safer a b → all_faults all es b ≡ [] → all_faults all es a ≡ []
     safer_all end a b w h = refl

@@ -6,7 +6,7 @@ use Rattle.ef_core.specs.declared.env.Bind.{Bind}
 use Rattle.ef_core.specs.Env.{NamesDiffer, held}
 use Rattle.ef_core.specs.Everywhere.{Each}
 use Rattle.ef_forms.specs.Sure.{sure, shape_sure, all_sure, clauses_sure}
-use Rattle.ef_forms.specs.Tree.{Tree, Shape, Trees, Guards, Clauses, tree, int, atom, var, any, list, list_to, tuple, matching, call, remote, case_of, end, more, no_guard, or_guard, no_clauses, clause}
+use Rattle.ef_forms.specs.Tree.{Tree, Shape, Trees, Guards, Clauses, tree, var, list, list_to, tuple, matching, call, remote, case_of, end, more, no_guard, or_guard, no_clauses, clause}
 use Rattle.ef_forms.specs.Ways.{NameSet, no_names, one_name, union, common, names, shape_names, all_names, guards_names, clauses_names}
 use Rattle.ef_forms.specs.Weight.{weight, shape_weight, all_weight, guards_weight, clauses_weight}
 use Rattle.ef_meaning.proofs.Bodies.{same_name}
@@ -74,10 +74,7 @@ module _ (bs : List Bind) (differ : NamesDiffer bs) where
     few_in (tree p e) = few_in_shape e
 
     few_in_shape : (e : Shape) → count_in (shape_names e) bs ≤ shape_weight e
-    few_in_shape (int i) = let none = none_in bs in omega arith
-    few_in_shape (atom n) = let none = none_in bs in omega arith
     few_in_shape (var n) = one_most n bs differ
-    few_in_shape any = let none = none_in bs in omega arith
     few_in_shape (list es) = let all = few_in_all es in omega arith
     few_in_shape (list_to es e) = let most = union_most (all_names es) (names e) bs in let all = few_in_all es in let one = few_in e in omega arith
     few_in_shape (tuple es) = let all = few_in_all es in omega arith
@@ -87,6 +84,7 @@ module _ (bs : List Bind) (differ : NamesDiffer bs) where
         let most = union_most (names m) (union (names f) (all_names es)) bs in let most_of = union_most (names f) (all_names es) bs in
         let left = few_in m in let right = few_in f in let all = few_in_all es in omega arith
     few_in_shape (case_of e cs) = let most = union_most (names e) (clauses_names cs) bs in let one = few_in e in let all = few_in_clauses cs in omega arith
+    few_in_shape _ = let none = none_in bs in omega arith
 
     pub few_in_all : (es : Trees) → count_in (all_names es) bs ≤ all_weight es
     few_in_all end = let none = none_in bs in omega arith
@@ -109,10 +107,7 @@ module _ (bs : List Bind) (differ : NamesDiffer bs) where
     few_sure (tree p e) = few_sure_shape e
 
     few_sure_shape : (e : Shape) → count_in (shape_sure e) bs ≤ shape_weight e
-    few_sure_shape (int i) = let none = none_in bs in omega arith
-    few_sure_shape (atom n) = let none = none_in bs in omega arith
     few_sure_shape (var n) = one_most n bs differ
-    few_sure_shape any = let none = none_in bs in omega arith
     few_sure_shape (list es) = let all = few_sure_all es in omega arith
     few_sure_shape (list_to es e) = let most = union_most (all_sure es) (sure e) bs in let all = few_sure_all es in let one = few_sure e in omega arith
     few_sure_shape (tuple es) = let all = few_sure_all es in omega arith
@@ -122,6 +117,7 @@ module _ (bs : List Bind) (differ : NamesDiffer bs) where
         let most = union_most (sure m) (union (sure f) (all_sure es)) bs in let most_of = union_most (sure f) (all_sure es) bs in
         let left = few_sure m in let right = few_sure f in let all = few_sure_all es in omega arith
     few_sure_shape (case_of e cs) = let most = union_most (sure e) (clauses_sure cs) bs in let one = few_sure e in let all = few_sure_clauses cs in omega arith
+    few_sure_shape _ = let none = none_in bs in omega arith
 
     few_sure_all : (es : Trees) → count_in (all_sure es) bs ≤ all_weight es
     few_sure_all end = let none = none_in bs in omega arith

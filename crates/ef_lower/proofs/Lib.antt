@@ -26,3 +26,4 @@ pub mod Chosen
 pub mod OneArm
 pub mod Renames
 pub mod Stepped
+pub mod Falls

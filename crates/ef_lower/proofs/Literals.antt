@@ -11,7 +11,7 @@ use Rattle.ef_core.specs.Normal.{AreLits, IsLit}
 use Rattle.ef_core.specs.Plain.{lits, plain, plain_all, plain_lit, trees}
 use Rattle.ef_core.specs.Tree as to
 use Rattle.ef_core.specs.Tree.{CoreTree}
-use Rattle.ef_forms.proofs.Takes.{take_next}
+use Rattle.ef_lowpat.proofs.Takes.{take_next}
 use Rattle.ef_lower.specs.Nodes.{JoinsTo, literal_values}
 
 pub literal_at : (es : List CoreExpr) (i : ℕ) (e : CoreExpr) → i < length es → e ≡ get_or es i e → AreLits (plain_all es) → IsLit (plain e)

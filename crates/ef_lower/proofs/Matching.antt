@@ -13,7 +13,7 @@ use Rattle.ef_core.specs.Plain.{ClauseTree, StepTree, clauses, steps}
 use Rattle.ef_core.specs.Scope.{IsAmong, pats_vars, steps_vars}
 use Rattle.ef_core.specs.Tree as c
 use Rattle.ef_core.specs.Tree.{CoreTree}
-use Rattle.ef_forms.proofs.Depths.{some_depth}
+use Rattle.ef_lowpat.proofs.Depths.{some_depth}
 use Rattle.ef_forms.specs.declared.tables.FunctionName.{FunctionName}
 use Rattle.ef_forms.specs.Depth.{all_depth, depth as source_depth}
 use Rattle.ef_forms.specs.Plain.{trees}

@@ -4,22 +4,13 @@ use Rattle.ef_core.specs.declared.env.Bind.{Bind}
 use Rattle.ef_forms.specs.Depth.{all_depth}
 use Rattle.ef_forms.specs.Plain.{trees}
 use Rattle.ef_forms.specs.Sure.{all_sure, sure}
-use Rattle.ef_forms.specs.Tree.{Tree, tree, int, atom, var, any, list, list_to, tuple, matching, call, remote, case_of, count}
+use Rattle.ef_forms.specs.Tree.{Tree, tree, any, count}
 use Rattle.ef_forms.specs.Weight.{all_weight, weight}
 use Rattle.ef_meaning.specs.Named.{bound_names}
 
 pub some_weight : (e : Tree) → 1 ≤ weight e
-some_weight (tree p (int i)) = omega arith
-some_weight (tree p (atom n)) = omega arith
-some_weight (tree p (var n)) = omega arith
 some_weight (tree p any) = omega arith
-some_weight (tree p (list es)) = omega arith
-some_weight (tree p (list_to es e)) = omega arith
-some_weight (tree p (tuple es)) = omega arith
-some_weight (tree p (matching q e)) = omega arith
-some_weight (tree p (call f es)) = omega arith
-some_weight (tree p (remote m f es)) = omega arith
-some_weight (tree p (case_of e cs)) = omega arith
+some_weight (tree p _) = omega arith
 
 pub weight_both : (es ds : List Tree) → all_weight (trees (es ++ ds)) ≡ all_weight (trees es) + all_weight (trees ds)
 weight_both [] ds = omega arith

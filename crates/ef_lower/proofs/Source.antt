@@ -21,8 +21,9 @@ use Rattle.ef_forms.specs.Sure.{sure}
 use Rattle.ef_forms.specs.Tree.{Shape, Tree, Trees, Clauses, tree, atom, var, list, list_to, tuple, matching, call, remote, case_of, clause, count}
 use Rattle.ef_forms.specs.Ways.{NameSet, union, all_names, all_faults, body_faults, clauses_faults, faults, pattern_faults, patterns_faults, ways}
 use Rattle.ef_forms.specs.Weight.{all_weight, clauses_weight, weight}
-use Rattle.ef_forms.proofs.Plain.{plain_expr, plain_list, plain_list_to}
-use Rattle.ef_forms.proofs.Takes.{take_next}
+use Rattle.ef_forms.proofs.Plain.{plain_expr}
+use Rattle.ef_forms.proofs.Shapes.{plain_list, plain_list_to}
+use Rattle.ef_lowpat.proofs.Takes.{take_next}
 use Rattle.ef_lower.specs.LastCalls.{IsWithin}
 use Rattle.ef_lower.specs.Lowers.{Binds}
 use Rattle.ef_lower.specs.Ready.{AreReady, IsReady, IsReadyClause, bound_names}

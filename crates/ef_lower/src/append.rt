@@ -44,7 +44,6 @@ pub fn append(
         Node::Int(value) => Ok(integer(*value)),
         Node::Atom(name) => Ok(atom(*name)),
         Node::Var(name) => Ok(variable(env, *name)),
-        Node::Any => unreachable!(),
         Node::List { items, tail } => {
             let items = append_all(alloc, names, tables, items, env, fresh, steps)?;
             match tail {
@@ -81,6 +80,7 @@ pub fn append(
             let arms = arms(alloc, names, tables, clauses, env, fresh)?;
             Ok(choose(alloc, names, held, arms, env, fresh, steps)?)
         }
+        _ => unreachable!(),
     }
 }
 

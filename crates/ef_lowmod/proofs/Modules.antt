@@ -20,7 +20,7 @@ use Rattle.ef_forms.specs.declared.tables.FunctionName.{FunctionName}
 use Rattle.ef_forms.specs.Built.{Each, IsBuiltFunction, exports_in, functions_in, name_of}
 use Rattle.ef_forms.specs.OfTable.{FormOf, FormsOf, FunctionOf, ReferencesOf}
 use Rattle.ef_forms.specs.Plain.{plain_placed}
-use Rattle.ef_forms.specs.Tree.{FormTree, FunctionTree, ModuleTree, PlacedTree, export, function, module_name}
+use Rattle.ef_forms.specs.Tree.{FormTree, FunctionTree, ModuleTree, PlacedTree, export, function}
 use Rattle.ef_lowmod.specs.declared.info.Fixed.{Fixed}
 use Rattle.ef_lowmod.specs.Exports.{is_other_by}
 use Rattle.ef_lowmod.specs.Function.{AreLowered, HasNoFault, IsLight, IsLoweredForm, IsNarrowFunction, IsReadyFunction, IsWhole}
@@ -46,9 +46,8 @@ each_both P (x ∷ xs) ys left right = (left.0, each_both P xs ys left.1 right)
 -- ---- functions among forms
 
 one_by_one : (p : Place) (form : FormTree) (fs : List PlacedTree) → functions_in (record { place = p; form = form } ∷ fs) ≡ functions_in (record { place = p; form = form } ∷ []) ++ functions_in fs
-one_by_one p (module_name n) fs = refl
-one_by_one p (export refs) fs = refl
 one_by_one p (function g) fs = refl
+one_by_one p _ fs = refl
 
 split_forms : (f : PlacedTree) (fs : List PlacedTree) → functions_in (f ∷ fs) ≡ functions_in (f ∷ []) ++ functions_in fs
 split_forms f fs = one_by_one f.place f.form fs
@@ -86,9 +85,8 @@ form_lowered now all names forms i x ds new later before small read one =
 -- ---- functions that can be lowered
 
 function_first : (texts : Texts) (p : Place) (form : FormTree) → FormOf texts form → Each (FunctionOf texts) (functions_in (record { place = p; form = form } ∷ []))
-function_first texts p (module_name n) is = tt
-function_first texts p (export refs) is = tt
 function_first texts p (function g) is = (is, tt)
+function_first texts p _ is = tt
 
 functions_of_table : (texts : Texts) (forms : List PlacedTree) → FormsOf texts forms → Each (FunctionOf texts) (functions_in forms)
 functions_of_table texts [] is = tt
@@ -124,10 +122,9 @@ references_named texts [] is = tt
 references_named texts (r ∷ refs) is = (is.0, references_named texts refs is.1)
 
 exports_first : (texts : Texts) (p : Place) (form : FormTree) (forms : List PlacedTree) → FormOf texts form → Each (λ f. HasName texts f.name) (exports_in forms) → Each (λ f. HasName texts f.name) (exports_in (record { place = p; form = form } ∷ forms))
-exports_first texts p (module_name n) forms is rest = rest
 exports_first texts p (export refs) forms is rest =
     each_both (λ (f : FunctionName). HasName texts f.name) (map name_of refs) (exports_in forms) (references_named texts refs is) rest
-exports_first texts p (function g) forms is rest = rest
+exports_first texts p _ forms is rest = rest
 
 pub exports_named : (texts : Texts) (forms : List PlacedTree) → FormsOf texts forms → Each (λ f. HasName texts f.name) (exports_in forms)
 exports_named texts [] is = tt

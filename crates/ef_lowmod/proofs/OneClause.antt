@@ -19,7 +19,7 @@ use Rattle.ef_forms.specs.Depth.{all_depth}
 use Rattle.ef_forms.specs.Plain.{plain, plain_all, plain_guard}
 use Rattle.ef_forms.specs.Tree.{no_guard}
 use Rattle.ef_forms.specs.Ways.{NameSet}
-use Rattle.ef_forms.proofs.Depths.{some_depths}
+use Rattle.ef_lowpat.proofs.Depths.{some_depths}
 use Rattle.ef_forms.proofs.Plain.{counted}
 use Rattle.ef_lower.specs.Scope.{HasVariables, IsInScope}
 use Rattle.ef_lower.proofs.Scopes.{among_first}

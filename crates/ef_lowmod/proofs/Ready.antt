@@ -15,7 +15,7 @@ use Rattle.ef_forms.specs.Plain.{plain_all, plain_clauses, plain_guard}
 use Rattle.ef_forms.specs.Tree.{Clauses, Guards, Trees, clause, count, end, more, no_clauses, no_guard, or_guard}
 use Rattle.ef_forms.specs.Ways.{all_names, body_faults, clauses_faults, guards_faults, no_names, patterns_faults}
 use Rattle.ef_forms.specs.Weight.{all_weight, clauses_weight}
-use Rattle.ef_forms.proofs.Depths.{some_depths}
+use Rattle.ef_lowpat.proofs.Depths.{some_depths}
 use Rattle.ef_forms.proofs.Plain.{counted}
 use Rattle.ef_lower.proofs.Faults.{nothing_left, nothing_right}
 use Rattle.ef_lower.proofs.Sizes.{some_weight}

@@ -1,3 +1,5 @@
+pub mod Depths
+pub mod Takes
 pub mod Verdicts
 pub mod Matching
 pub mod Leaves

@@ -4,7 +4,7 @@ use Rattle.std.specs.Prelude.{filter}
 use Rattle.std.proofs.lemmas.Bool.Decides.{nat_tests}
 use Rattle.ef_base.specs.declared.name.Name.{Name}
 use Rattle.ef_base.specs.Texts.{Texts, text}
-use Rattle.ef_forms.specs.Tree.{Tree, Shape, Trees, tree, int, atom, var, any, list, list_to, tuple, matching, call, remote, case_of, end, more}
+use Rattle.ef_forms.specs.Tree.{Tree, Shape, Trees, tree, int, atom, var, any, list, list_to, tuple, end, more}
 use Rattle.ef_forms.specs.Ways.{NameSet, no_names, one_name, union, common, names, shape_names, all_names}
 use Rattle.ef_meaning.specs.Value.{Value, Values, Integer, Atom, Nil, none, some, head_and_tail, elements, with_some}
 use Rattle.ef_meaning.specs.Same.{same_value}
@@ -166,10 +166,7 @@ module _ (all : Texts) where
     shape_follows (tuple es) v b c is =
         let i = some_parts (elements v) (λ vs. match_values all es vs b) c is in
         all_follows es i.0 b c i.2
-    shape_follows (matching p e) v b c is = absurd cc
-    shape_follows (call f es) v b c is = absurd cc
-    shape_follows (remote m f es) v b c is = absurd cc
-    shape_follows (case_of e cs) v b c is = absurd cc
+    shape_follows _ v b c is = absurd cc
 
     items_follow : (ps : Trees) (v : Value) (b : Bindings) (r : Value × Bindings) → match_items all ps v b ≡ Some r → Follows b (all_names ps) r.1
     items_follow end v b r is = subst (λ (z : Value × Bindings). Follows b no_names z.1) (let same : (v, b) ≡ r = cc in same) (nothing b)

@@ -106,6 +106,8 @@ none_built defs n es differ full built = (no_info (record { name = n; arity = 0 
 
 two_built : IsBuilt table two_calls
 two_built = record {
+  forms = (tt, (tt, (tt, tt)));
+  one_export = refl;
   functions = (apart f_key (k_key 1) (λ p. absurd (omega arith)), (alone (k_key 1), tt));
   exports = (alone f_key, tt);
   exported = (inl (inl refl), tt);
@@ -120,6 +122,8 @@ two_bound = (refl, (refl, tt))
 
 dropped_built : IsBuilt table dropped_value
 dropped_built = record {
+  forms = (tt, (tt, tt));
+  one_export = refl;
   functions = (alone f_key, tt);
   exports = (alone f_key, tt);
   exported = (inl (inl refl), tt);
@@ -131,6 +135,8 @@ dropped_bound = (refl, tt)
 
 ordered_built : IsBuilt table ordered
 ordered_built = record {
+  forms = (tt, (tt, (tt, tt)));
+  one_export = refl;
   functions = (apart f_key (k_key 0) (λ p. absurd (omega arith)), (alone (k_key 0), tt));
   exports = (alone f_key, tt);
   exported = (inl (inl refl), tt);
@@ -146,6 +152,8 @@ ordered_bound = (refl, (refl, tt))
 
 named_built : IsBuilt table named_value
 named_built = record {
+  forms = (tt, (tt, tt));
+  one_export = refl;
   functions = (alone f_key, tt);
   exports = (alone f_key, tt);
   exported = (inl (inl refl), tt);
@@ -157,6 +165,8 @@ named_bound = (refl, tt)
 
 tagged_built : IsBuilt table tagged_value
 tagged_built = record {
+  forms = (tt, (tt, tt));
+  one_export = refl;
   functions = (alone f_key, tt);
   exports = (alone f_key, tt);
   exported = (inl (inl refl), tt);

@@ -5,7 +5,7 @@ use Rattle.std.proofs.lemmas.Bool.{and_from}
 use Rattle.std.proofs.lemmas.Bool.Decides.{nat_tests}
 use Rattle.ef_base.specs.declared.name.Name.{Name}
 use Rattle.ef_base.specs.Texts.{text}
-use Rattle.ef_forms.specs.Tree.{Tree, Shape, Trees, Clauses, tree, int, atom, var, any, list, list_to, tuple, matching, call, remote, case_of, end, more, no_guard, or_guard, no_clauses, clause, count}
+use Rattle.ef_forms.specs.Tree.{Tree, Shape, Trees, Clauses, tree, int, atom, var, list, list_to, tuple, matching, call, remote, case_of, end, more, no_guard, or_guard, no_clauses, clause, count}
 use Rattle.ef_forms.specs.Ways.{NameSet, no_names, union, common, names, all_names}
 use Rattle.ef_forms.specs.Sure.{sure, shape_sure, all_sure, clauses_sure}
 use Rattle.ef_meaning.specs.Value.{Value, Atom, Local, External, Made, some, values_of}
@@ -42,7 +42,6 @@ module _ (w : Module) where
     IsSafeShape s (int i) = Unit {0}
     IsSafeShape s (atom n) = Unit {0}
     IsSafeShape s (var n) = s n.index ≡ true
-    IsSafeShape s any = ⊥
     IsSafeShape s (list es) = AreSafe s es
     IsSafeShape s (list_to es e) = AreSafe s es × IsSafe s e
     IsSafeShape s (tuple es) = AreSafe s es
@@ -50,6 +49,7 @@ module _ (w : Module) where
     IsSafeShape s (call f es) = IsSafeTarget f (count es) × AreSafe s es
     IsSafeShape s (remote m f es) = IsSafe s m × IsSafe s f × AreSafe s es
     IsSafeShape s (case_of e cs) = IsSafe s e × AreSafeClauses 1 (union s (sure e)) cs
+    IsSafeShape s _ = ⊥
 
     -- only functions of the module are called
     pub IsSafeTarget : Tree → ℕ → Type 0
@@ -281,7 +281,6 @@ module _ (w : Module) where
       shape_fine σ (int i) ls b s fine all covers is = (nothing b, all)
       shape_fine σ (atom n) ls b s fine all covers is = (nothing b, all)
       shape_fine σ (var n) ls b s fine all covers is = named_fine n (value_of n b) b s all refl (covers n is)
-      shape_fine σ any ls b s fine all covers is = absurd is
       shape_fine σ (list es) ls b s fine all covers is = then_fine w (BindAll b (all_sure es)) (Binds b (all_sure es)) (eval_all w es ls b s) _ (all_fine σ es ls b s fine all covers is) (λ a t p q. (p, q))
       shape_fine σ (list_to es e) ls b s fine all covers is = then_fine w (BindAll b (all_sure es)) (Binds b (union (all_sure es) (sure e))) (eval_all w es ls b s) _ (all_fine σ es ls b s fine all covers is.0) (λ a t p q.
           then_fine w (Binds a.1 (sure e)) (Binds b (union (all_sure es) (sure e))) (eval w e ls a.1 t) _ (eval_fine σ e ls a.1 t fine q (still σ b (all_sure es) a.1 covers p) is.1) (λ d u r z. (follows_trans p r, z)))
@@ -306,6 +305,7 @@ module _ (w : Module) where
           then_fine w (Binds a.1 (clauses_sure cs)) (Binds b last) (if are_wide 1 cs then pick w cs (a.0 ∷ []) ls a.1 (λ u. u) (λ u. Raises Error (case_clause a.0) u) t else Wrong) _
           (wide_fine (Binds a.1 (clauses_sure cs)) 1 (union σ (sure e)) cs is.1 _ (pick_fine 1 (union σ (sure e)) cs (a.0 ∷ []) ls a.1 (case_clause a.0) t fine q (covers_union σ (sure e) b a.1 covers p) is.1))
           (λ r u i z. (follows_trans p (kept_follows (clauses_sure cs) a.1 r.1 i), z)))
+      shape_fine σ _ ls b s fine all covers is = absurd is
 
       all_fine : (σ : NameSet) (es : Trees) (ls : Levels) (b : Bindings) (s : Source) → LevelsFine w ls → AreSafeFunctions w s.store → Covers σ b → AreSafe w σ es → Fine w (BindAll b (all_sure es)) (eval_all w es ls b s)
       all_fine σ end ls b s fine all covers is = (nothing b, all)

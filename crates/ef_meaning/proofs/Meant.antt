@@ -129,6 +129,7 @@ module _ (all : Texts) where
       safe_shape (case_of e cs) p s t within built none =
           let parts = both_empty (faults all e s) (clauses_faults all cs (flat_map (ways e) s)) none in
           (safe_tree e s t within built.0 parts.0, safe_clauses cs 1 (flat_map (ways e) s) (union t (sure e)) (within_ways e s t within) built.2 parts.1)
+      safe_shape _ p s t within built none = absurd built
 
       safe_trees : (es : Trees) (s : List NameSet) (t : NameSet) → Within s t → AreBuilt all (defined_in m.forms) es → all_faults all es s ≡ [] → AreSafe world t es
       safe_trees end s t within built none = tt

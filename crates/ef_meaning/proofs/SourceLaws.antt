@@ -2,7 +2,7 @@
 use Rattle.std.proofs.Common.{ℕ, zero, suc, ◌≤◌, if◌then◌else◌, codes, List, [], ◌∷◌, length, Option, Some, None, refl, arith}
 use Rattle.ef_base.specs.Texts.{text}
 use Rattle.ef_meaning.specs.Lookup.{find}
-use Rattle.ef_forms.specs.Tree.{Tree, Shape, Trees, Guards, Clauses, tree, int, atom, var, any, list, list_to, tuple, matching, call, remote, case_of, end, more, no_guard, or_guard, no_clauses, clause, count}
+use Rattle.ef_forms.specs.Tree.{Tree, Shape, Trees, Guards, Clauses, tree, int, atom, var, list, list_to, tuple, matching, call, remote, case_of, end, more, no_guard, or_guard, no_clauses, clause, count}
 use Rattle.ef_meaning.specs.Value.{Value, Atom}
 use Rattle.ef_meaning.specs.Exception.{Error, function_clause, case_clause}
 use Rattle.ef_meaning.specs.End.{End, Raises, Wrong}
@@ -60,7 +60,6 @@ module _ (w : Module) where
     shape_ahead (int i) ls b s g = begins_refl s.outside.events
     shape_ahead (atom n) ls b s g = begins_refl s.outside.events
     shape_ahead (var n) ls b s g = named_ahead (value_of n b) b s
-    shape_ahead any ls b s g = tt
     shape_ahead (list es) ls b s g = then_ahead _ (eval_all w es ls b s) _ (all_ahead es ls b s g) (λ a t. begins_refl t.outside.events)
     shape_ahead (list_to es e) ls b s g = then_ahead _ (eval_all w es ls b s) _ (all_ahead es ls b s g) (λ a t. then_ahead _ (eval w e ls a.1 t) _ (eval_ahead e ls a.1 t g) (λ d u. begins_refl u.outside.events))
     shape_ahead (tuple es) ls b s g = then_ahead _ (eval_all w es ls b s) _ (all_ahead es ls b s g) (λ a t. begins_refl t.outside.events)
@@ -72,6 +71,7 @@ module _ (w : Module) where
     shape_ahead (case_of e cs) ls b s g = then_ahead _ (eval w e ls b s) _ (eval_ahead e ls b s g) (λ a t.
         then_ahead _ (if are_wide 1 cs then pick w cs (a.0 ∷ []) ls a.1 (λ u. u) (λ u. Raises Error (case_clause a.0) u) t else Wrong) _
         (if_ahead _ (are_wide 1 cs) _ _ (pick_ahead cs (a.0 ∷ []) ls a.1 (λ u. u) (λ u. Raises Error (case_clause a.0) u) t g (λ u. begins_refl u.outside.events) (λ u. begins_refl u.outside.events)) tt) (λ r u. begins_refl u.outside.events))
+    shape_ahead _ ls b s g = tt
 
     target_ahead : (e : Tree) (arity : ℕ) (ls : Levels) (b : Bindings) (s : Source) → Grow ls → Ahead s.outside.events (eval_target w e arity ls b s)
     target_ahead (tree p (atom n)) arity ls b s g = found_ahead (find (text w.texts n) arity w.functions) (text w.texts n) arity b s
@@ -146,7 +146,6 @@ module _ (w : Module) where
     shape_extends (int i) ls ks b s p g = refl
     shape_extends (atom n) ls ks b s p g = refl
     shape_extends (var n) ls ks b s p g = extends_refl (named (value_of n b) b s)
-    shape_extends any ls ks b s p g = refl
     shape_extends (list es) ls ks b s p g = then_extends (eval_all w es ls b s) (eval_all w es ks b s) _ _ (all_extends es ls ks b s p g) (λ a t. refl) (λ a t. begins_refl t.outside.events)
     shape_extends (list_to es e) ls ks b s p g = then_extends (eval_all w es ls b s) (eval_all w es ks b s) _ _ (all_extends es ls ks b s p g)
         (λ a t. then_extends (eval w e ls a.1 t) (eval w e ks a.1 t) _ _ (eval_extends e ls ks a.1 t p g) (λ d u. refl) (λ d u. begins_refl u.outside.events))
@@ -172,6 +171,7 @@ module _ (w : Module) where
         (λ a x. beside_ahead a.1 _ x (remote_ahead (side w) ks h.0 i.0 a.0 x (side_grows w ks g))))
         (λ i u. last h i u))
         (λ h t. then_ahead _ (eval w f ks h.1 t) _ (eval_ahead w f ks h.1 t g) (λ i u. last h i u))
+    shape_extends _ ls ks b s p g = refl
 
     target_extends : (e : Tree) (arity : ℕ) (ls ks : Levels) (b : Bindings) (s : Source) → Below ls ks → Grow ks → Extends (eval_target w e arity ls b s) (eval_target w e arity ks b s)
     target_extends (tree p (atom n)) arity ls ks b s q g = extends_refl (target (find (text w.texts n) arity w.functions) (text w.texts n) arity b s)

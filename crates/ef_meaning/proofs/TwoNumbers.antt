@@ -182,6 +182,8 @@ not_info p = absurd cc
 
 identity_built : IsBuilt repeating identity
 identity_built = record {
+  forms = (tt, (tt, tt));
+  one_export = refl;
   functions = ((λ h. h), tt);
   exports = ((λ h. h), tt);
   exported = (inl (inl refl), tt);

@@ -2,7 +2,7 @@
 use Rattle.std.specs.Prelude.{◌==◌, if◌then◌else◌, List, [], ◌∷◌, Option, Some, None}
 use Rattle.ef_base.specs.declared.name.Name.{Name}
 use Rattle.ef_base.specs.Texts.{Texts, text}
-use Rattle.ef_forms.specs.Tree.{Tree, Shape, Trees, tree, int, atom, var, any, list, list_to, tuple, matching, call, remote, case_of, end, more}
+use Rattle.ef_forms.specs.Tree.{Tree, Shape, Trees, tree, int, atom, var, any, list, list_to, tuple, end, more}
 use Rattle.ef_meaning.specs.Value.{Value, Values, Integer, Atom, Nil, none, some, values_of, head_and_tail, elements, with_some}
 use Rattle.ef_meaning.specs.Same.{same_value}
 
@@ -24,7 +24,7 @@ match_name n (Some u) v b = compared u v b
 
 module _ (all : Texts) where
   abbrev mutual
-    -- whether a value matches a pattern under bindings, and the bindings that result; a call, a match or a `case` is no pattern
+    -- whether a value matches a pattern under bindings, and the bindings that result; other expressions are no patterns, or not built yet
     pub matches : Tree → Value → Bindings → Option Bindings
     matches (tree p e) v b = matches_shape e v b
 
@@ -36,10 +36,7 @@ module _ (all : Texts) where
     matches_shape (list es) v b = with_some (match_items es v b) (λ r. compared Nil r.0 r.1)
     matches_shape (list_to es e) v b = with_some (match_items es v b) (λ r. matches e r.0 r.1)
     matches_shape (tuple es) v b = with_some (elements v) (λ vs. match_values es vs b)
-    matches_shape (matching p e) v b = None
-    matches_shape (call f es) v b = None
-    matches_shape (remote m f es) v b = None
-    matches_shape (case_of e cs) v b = None
+    matches_shape _ v b = None
 
     -- the front of a list matches these; its tail, and the bindings that result
     pub match_items : Trees → Value → Bindings → Option (Value × Bindings)

@@ -1,7 +1,7 @@
 -- What an expression of the source means (Erlang Reference Manual, "Expressions" and "Function Declaration Syntax").
 use Rattle.std.specs.Prelude.{ℕ, zero, suc, Bool, true, ◌&&◌, ◌==◌, if◌then◌else◌, codes, List, [], ◌∷◌, ◌++◌, length, map, filter, Option, Some, None}
 use Rattle.ef_base.specs.Texts.{Texts, text}
-use Rattle.ef_forms.specs.Tree.{Tree, Shape, Trees, Guards, Clauses, FunctionTree, ModuleTree, tree, int, atom, var, any, list, list_to, tuple, matching, call, remote, case_of, end, more, no_guard, or_guard, no_clauses, clause, count}
+use Rattle.ef_forms.specs.Tree.{Tree, Shape, Trees, Guards, Clauses, FunctionTree, ModuleTree, tree, int, atom, var, list, list_to, tuple, matching, call, remote, case_of, end, more, no_guard, or_guard, no_clauses, clause, count}
 use Rattle.ef_forms.specs.Built.{functions_in}
 use Rattle.ef_forms.specs.Ways.{NameSet}
 use Rattle.ef_forms.specs.Sure.{clauses_sure}
@@ -123,8 +123,6 @@ module _ (w : Module) where
     eval_shape (int i) ls b s = Gives (Integer i, b) s
     eval_shape (atom n) ls b s = Gives (Atom (text w.texts n), b) s
     eval_shape (var n) ls b s = named (value_of n b) b s
-    -- `_` is a fault
-    eval_shape any ls b s = Wrong
     eval_shape (list es) ls b s = and_then (eval_all es ls b s) (λ a t. Gives (list_value a.0, a.1) t)
     eval_shape (list_to es e) ls b s = and_then (eval_all es ls b s) (λ a t. and_then (eval e ls a.1 t) (λ d u. Gives (list_onto a.0 d.0, d.1) u))
     eval_shape (tuple es) ls b s = and_then (eval_all es ls b s) (λ a t. Gives (Tuple (values_of a.0), a.1) t)
@@ -139,6 +137,8 @@ module _ (w : Module) where
     -- the value, then the first clause that matches; the names that every clause binds are kept
     eval_shape (case_of e cs) ls b s = and_then (eval e ls b s) (λ a t.
         and_then (if are_wide 1 cs then pick cs (a.0 ∷ []) ls a.1 (λ u. u) (λ u. Raises Error (case_clause a.0) u) t else Wrong) (λ r u. Gives (r.0, kept (clauses_sure cs) r.1 a.1) u))
+    -- `_` is a fault, and other expressions are not built yet
+    eval_shape _ ls b s = Wrong
 
     -- what is called, with so many arguments
     pub eval_target : Tree → ℕ → Levels → Bindings → Source → Answer

@@ -90,7 +90,7 @@ true_false e = cc
 abbrev pub IsRun : FormTree → Outcome → Type 0
 IsRun (module_name n) o = o ≡ named n
 IsRun (export fs) o = o ≡ listed fs
-IsRun (function g) o = ⊥
+IsRun _ o = ⊥
 
 spelled_run : (now all : Texts) (f : FormTree) (ts : List Token) → Extends now all → TokensOf now ts → is_attribute ts ≡ true → SpellsForm all f ts → IsNarrowForm f
     → IsRun f (run now ts mode.Minus [])
@@ -105,17 +105,17 @@ spelled_run now all f ts later names e (a_function n cs d p us c w) h = absurd (
 only_module : (other : FormTree) (n : Name) → IsRun other (named n) → other ≡ module_name n
 only_module (module_name m) n e = cc
 only_module (export fs) n e = cc
-only_module (function g) n e = absurd e
+only_module _ n e = absurd e
 
 only_export : (other : FormTree) (fs : List FunctionRef) → IsRun other (listed fs) → other ≡ export fs
 only_export (module_name m) fs e = cc
 only_export (export gs) fs e = cc
-only_export (function g) fs e = absurd e
+only_export _ fs e = absurd e
 
 no_run : (other : FormTree) → IsRun other refused → ⊥
 no_run (module_name m) e = cc
 no_run (export fs) e = cc
-no_run (function g) e = e
+no_run _ e = e
 
 pub attribute_read : (now : Texts) (ts : List Token) (made : Option Form) → TokensOf now ts → is_attribute ts ≡ true → IsAnswer made (run now ts mode.Minus []) → IsReadForm now ts made
 attribute_read now ts (Some (form.ModuleName n)) names e a =
@@ -130,7 +130,7 @@ attribute_read now ts (Some (form.Export rs)) names e a =
       narrow = (attribute_spelled now ts (listed rs.items) names a tt).1;
       alone = λ all later other s h. only_export other rs.items (subst (IsRun other) a (spelled_run now all other ts later names e s h));
     }
-attribute_read now ts (Some (form.FunctionOf f)) names e a = absurd a
+attribute_read now ts (Some _) names e a = absurd a
 attribute_read now ts None names e a = λ all later f s h. no_run f (subst (IsRun f) a (spelled_run now all f ts later names e s h))
 
 -- ---- functions

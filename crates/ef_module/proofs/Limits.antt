@@ -1,13 +1,17 @@
 -- The tests of the limits, one list item at a time, and what they say.
-use Rattle.std.proofs.Common.{◌≡◌, ℕ, ◌≤◌, Bool, true, false, refl, arith}
+use Rattle.std.proofs.Common.{◌≡◌, ℕ, ◌≤◌, Bool, true, false, refl, sym, ap, ◌∙◌, arith}
 use Rattle.std.specs.Prelude.{nat_le, ◌&&◌}
 use Rattle.std.proofs.lemmas.Bool.Decides.{nat_tests}
+use Rattle.ef_forms.specs.declared.expr.Expr.{Expr}
+use Rattle.ef_forms.specs.Plain.{plain, plain_node}
 use Rattle.ef_forms.specs.Tree.{Tree, Shape, Trees, Guards, Clauses, tree, int, atom, var, any, list, list_to, tuple, matching, call, remote, case_of, end, more, no_guard, or_guard, no_clauses, clause, count}
 use Rattle.ef_forms.specs.Built.{most_arguments, IsNarrow, IsNarrowShape, AreNarrow, AreNarrowGuards, AreNarrowClauses}
 use Rattle.ef_forms.proofs.Plain as p
+use Rattle.ef_forms.proofs.Shapes as s
+use Rattle.ef_forms.proofs.Shapes.{IsOther}
 use Rattle.ef_module.specs.Narrow.{narrow, narrow_shape, narrow_all, narrow_guard, narrow_clause, narrow_clauses}
 
-pub ruleset laws = (p.counted, p.plain_expr, p.plain_int, p.plain_atom, p.plain_var, p.plain_any, p.plain_list, p.plain_list_to, p.plain_tuple, p.plain_match, p.plain_call, p.plain_remote, p.plain_case)
+pub ruleset laws = (p.counted, p.plain_expr, s.plain_int, s.plain_atom, s.plain_var, s.plain_any, s.plain_list, s.plain_list_to, s.plain_tuple, s.plain_match, s.plain_call, s.plain_remote, s.plain_case)
 
 left_of : (a b : Bool) → (a && b) ≡ true → a ≡ true
 left_of true b e = refl
@@ -48,6 +52,7 @@ mutual
       let s = right_of (narrow f) (nat_le (count es) most_arguments && narrow_all es) r in
       (le_there _ _ (left_of (nat_le (count es) most_arguments) (narrow_all es) s), there m (left_of (narrow m) (narrow f && (nat_le (count es) most_arguments && narrow_all es)) h), there f (left_of (narrow f) (nat_le (count es) most_arguments && narrow_all es) r), there_all es (right_of (nat_le (count es) most_arguments) (narrow_all es) s))
   there_shape (case_of e cs) h = (there e (left_of (narrow e) (narrow_clauses cs) h), clauses_there cs (right_of (narrow e) (narrow_clauses cs) h))
+  there_shape _ h = tt
 
   pub there_all : (es : Trees) → narrow_all es ≡ true → AreNarrow es
   there_all end h = tt
@@ -86,6 +91,7 @@ mutual
   back_shape (call f es) h = both_of _ _ (back f h.1) (both_of _ _ (le_back _ _ h.0) (back_all es h.2))
   back_shape (remote m f es) h = both_of _ _ (back m h.1) (both_of _ _ (back f h.2) (both_of _ _ (le_back _ _ h.0) (back_all es h.3)))
   back_shape (case_of e cs) h = both_of _ _ (back e h.0) (clauses_back cs h.1)
+  back_shape _ h = refl
 
   pub back_all : (es : Trees) → AreNarrow es → narrow_all es ≡ true
   back_all end h = refl
@@ -99,3 +105,22 @@ mutual
   clauses_back no_clauses h = refl
   clauses_back (clause p ps g body cs) h =
       both_of _ _ (both_of _ _ (le_back _ _ h.0) (both_of _ _ (back_all ps h.1) (both_of _ _ (guard_back g h.2) (back_all body h.3)))) (clauses_back cs h.4)
+
+-- ---- what is not built
+
+other_narrow : (e : Shape) → IsOther e → narrow_shape e ≡ true
+other_narrow (int i) is = absurd is
+other_narrow (atom n) is = absurd is
+other_narrow (var n) is = absurd is
+other_narrow any is = absurd is
+other_narrow (list es) is = absurd is
+other_narrow (list_to es e) is = absurd is
+other_narrow (tuple es) is = absurd is
+other_narrow (matching p e) is = absurd is
+other_narrow (call f es) is = absurd is
+other_narrow (remote m f es) is = absurd is
+other_narrow (case_of e cs) is = absurd is
+other_narrow _ is = refl
+
+pub not_built : (e : Expr) → IsOther (plain_node e.node) → true ≡ narrow (plain e)
+not_built e is = sym (ap narrow (p.plain_expr e) ∙ other_narrow (plain_node e.node) is)

@@ -103,24 +103,20 @@ right_of true b e = e
 right_of false b e = absurd (cc)
 
 function_there : (f : FormTree) → is_function f ≡ true → IsFunction f
-function_there (module_name n) e = absurd (cc)
-function_there (export rs) e = absurd (cc)
 function_there (function g) e = tt
+function_there _ e = absurd (cc)
 
 function_back : (f : FormTree) → IsFunction f → is_function f ≡ true
-function_back (module_name n) h = absurd h
-function_back (export rs) h = absurd h
 function_back (function g) h = refl
+function_back _ h = absurd h
 
 export_there : (f : FormTree) → is_export f ≡ true → IsExport f
-export_there (module_name n) e = absurd (cc)
 export_there (export rs) e = tt
-export_there (function g) e = absurd (cc)
+export_there _ e = absurd (cc)
 
 export_back : (f : FormTree) → IsExport f → is_export f ≡ true
-export_back (module_name n) h = absurd h
 export_back (export rs) h = refl
-export_back (function g) h = absurd h
+export_back _ h = absurd h
 
 functions_there : (fs : List PlacedTree) → are_functions fs ≡ true → AreFunctions fs
 functions_there [] e = tt
@@ -133,8 +129,7 @@ functions_back (f ∷ fs) h = both_of (is_function f.form) (are_functions fs) (f
 
 named_there : (f : FormTree) (n : Name) → Some n ≡ module_named f → f ≡ module_name n
 named_there (module_name m) n e = cc
-named_there (export rs) n e = absurd (cc)
-named_there (function g) n e = absurd (cc)
+named_there _ n e = absurd (cc)
 
 order_there : (fs : List PlacedTree) (n : Name) → Some n ≡ name_in fs → IsInOrder n fs
 order_there [] n e = absurd (cc)
@@ -156,14 +151,12 @@ order_back (f ∷ g ∷ fs) n h =
 -- ---- how many functions there are
 
 add_function : (p : Place) (f : FormTree) (fs : List PlacedTree) → IsFunction f → length (functions_in (record { place = p; form = f } ∷ fs)) ≡ length (functions_in fs) + 1
-add_function p (module_name n) fs h = absurd h
-add_function p (export rs) fs h = absurd h
 add_function p (function g) fs h = omega arith
+add_function p _ fs h = absurd h
 
 add_export : (p : Place) (f : FormTree) (fs : List PlacedTree) → IsExport f → length (functions_in (record { place = p; form = f } ∷ fs)) ≡ length (functions_in fs)
-add_export p (module_name n) fs h = absurd h
 add_export p (export rs) fs h = refl
-add_export p (function g) fs h = absurd h
+add_export p _ fs h = absurd h
 
 add_name : (p : Place) (f : FormTree) (n : Name) (fs : List PlacedTree) → f ≡ module_name n → length (functions_in (record { place = p; form = f } ∷ fs)) ≡ length (functions_in fs)
 add_name p f n fs e = ap (λ z. length (functions_in (record { place = p; form = z } ∷ fs))) e

@@ -163,5 +163,5 @@ run texts (t ∷ ts) m rs = follow (move texts m rs (seen t.kind) t.place) (run 
 abbrev pub IsAnswer : Option Form → Outcome → Type 0
 IsAnswer (Some (form.ModuleName n)) o = o ≡ named n
 IsAnswer (Some (form.Export rs)) o = o ≡ listed rs.items
-IsAnswer (Some (form.FunctionOf f)) o = ⊥
+IsAnswer (Some _) o = ⊥
 IsAnswer None o = o ≡ refused

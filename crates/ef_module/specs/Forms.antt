@@ -60,6 +60,7 @@ abbrev pub IsNarrowForm : FormTree → Type 0
 IsNarrowForm (module_name n) = Unit {0}
 IsNarrowForm (export fs) = AreNarrowReferences fs
 IsNarrowForm (function f) = AreNarrowClauses f.clauses
+IsNarrowForm _ = Unit {0}
 
 -- each form is spelled within the limits, and stands at its first token
 abbrev pub SpellsForms : Texts → List PlacedTree → List (List Token) → Type 0

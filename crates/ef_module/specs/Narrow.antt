@@ -19,6 +19,7 @@ abbrev mutual
   narrow_shape (call f es) = narrow f && (nat_le (count es) most_arguments && narrow_all es)
   narrow_shape (remote m f es) = narrow m && (narrow f && (nat_le (count es) most_arguments && narrow_all es))
   narrow_shape (case_of e cs) = narrow e && narrow_clauses cs
+  narrow_shape _ = true
 
   pub narrow_all : Trees → Bool
   narrow_all end = true

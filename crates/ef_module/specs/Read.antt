@@ -108,18 +108,15 @@ IsReadModule now forms None = IsNoModule now forms
 
 abbrev pub module_named : FormTree → Option Name
 module_named (module_name n) = Some n
-module_named (export refs) = None
-module_named (function f) = None
+module_named _ = None
 
 abbrev pub is_export : FormTree → Bool
-is_export (module_name n) = false
 is_export (export refs) = true
-is_export (function f) = false
+is_export _ = false
 
 abbrev pub is_function : FormTree → Bool
-is_function (module_name n) = false
-is_function (export refs) = false
 is_function (function f) = true
+is_function _ = false
 
 abbrev pub are_functions : List PlacedTree → Bool
 are_functions [] = true

@@ -17,11 +17,12 @@ fn is_narrow(expr: &Expr) -> bool
 {
     match &expr.node {
         Node::Int(_) | Node::Atom(_) | Node::Var(_) | Node::Any => true,
-        Node::List { items, tail: None } => are_narrow(items.as_slice()),
-        Node::List {
-            items,
-            tail: Some(tail),
-        } => are_narrow(items.as_slice()) && is_narrow(tail),
+        Node::List { items, tail } => {
+            let Some(tail) = tail else {
+                return are_narrow(items.as_slice());
+            };
+            are_narrow(items.as_slice()) && is_narrow(tail)
+        }
         Node::Tuple(items) => are_narrow(items.as_slice()),
         Node::Match { left, right } => is_narrow(left) && is_narrow(right),
         Node::Call { target, args } => { is_narrow(target) && are_narrow_args(args.as_slice()) }
@@ -31,6 +32,7 @@ fn is_narrow(expr: &Expr) -> bool
             args,
         } => is_narrow(module) && is_narrow(function) && are_narrow_args(args.as_slice()),
         Node::Case { arg, clauses } => is_narrow(arg) && are_narrow_clauses(clauses.as_slice()),
+        _ => true,
     }
 }
 

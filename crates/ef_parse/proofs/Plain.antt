@@ -5,10 +5,16 @@ use Rattle.ef_base.specs.declared.fault.Place.{Place}
 use Rattle.ef_forms.specs.declared.expr.Expr.{Expr}
 use Rattle.ef_forms.specs.declared.expr.Clause.{Clause, out-Clause, roll-Clause, out-roll-Clause}
 use Rattle.ef_forms.specs.declared.expr.Node.{Node}
+use Rattle.ef_forms.specs.declared.expr.CatchClause.{CatchClause}
+use Rattle.ef_forms.specs.declared.expr.FieldSet.{FieldSet}
+use Rattle.ef_forms.specs.declared.expr.MaybeStep.{MaybeStep}
+use Rattle.ef_forms.specs.declared.expr.Qualifier.{Qualifier}
+use Rattle.ef_forms.specs.declared.expr.Segment.{Segment}
 use Rattle.ef_forms.specs.declared.expr.Node.TheOpen.{Clause-F}
 use Rattle.ef_forms.specs.Tree.{more, clause, no_clauses}
 use Rattle.ef_forms.specs.Plain.{plain, plain_all, plain_guard, plain_clauses}
 use Rattle.ef_forms.proofs.Plain as p
+use Rattle.ef_forms.proofs.Shapes as s
 use Rattle.ef_parse.specs.Machine.{add, add_clause}
 
 pub plain_add : (es : List Expr) (e : Expr) → plain_all (es ++ e ∷ []) ≡ add (plain_all es) (plain e)
@@ -25,8 +31,8 @@ add_bare (b ∷ cs) c bare =
 pub plain_add_clause : (cs : List Clause) (p : Place) (ps : Vec Expr Global) (g : Vec (Vec Expr Global) Global) (es : Vec Expr Global) → g.items ≡ []
     → plain_clauses (cs ++ roll-Clause (record { place = p; patterns = ps; guard = g; body = es }) ∷ []) ≡ add_clause (plain_clauses cs) p (plain_all ps.items) (plain_all es.items)
 plain_add_clause cs p ps g es bare =
-    let layer : Clause-F Node Clause Expr = record { place = p; patterns = ps; guard = g; body = es } in
-    add_bare cs (roll-Clause layer) (ap (λ (z : Clause-F Node Clause Expr). z.guard.items) (out-roll-Clause layer) ∙ bare)
-    ∙ ap (λ (z : Clause-F Node Clause Expr). add_clause (plain_clauses cs) z.place (plain_all z.patterns.items) (plain_all z.body.items)) (out-roll-Clause layer)
+    let layer : Clause-F Node Qualifier CatchClause Clause Expr FieldSet MaybeStep Segment = record { place = p; patterns = ps; guard = g; body = es } in
+    add_bare cs (roll-Clause layer) (ap (λ (z : Clause-F Node Qualifier CatchClause Clause Expr FieldSet MaybeStep Segment). z.guard.items) (out-roll-Clause layer) ∙ bare)
+    ∙ ap (λ (z : Clause-F Node Qualifier CatchClause Clause Expr FieldSet MaybeStep Segment). add_clause (plain_clauses cs) z.place (plain_all z.patterns.items) (plain_all z.body.items)) (out-roll-Clause layer)
 
-pub ruleset laws = (p.plain_expr, p.plain_int, p.plain_atom, p.plain_var, p.plain_any, p.plain_list, p.plain_list_to, p.plain_tuple, p.plain_match, p.plain_call, p.plain_remote, p.plain_case, plain_add, plain_add_clause)
+pub ruleset laws = (p.plain_expr, s.plain_int, s.plain_atom, s.plain_var, s.plain_any, s.plain_list, s.plain_list_to, s.plain_tuple, s.plain_match, s.plain_call, s.plain_remote, s.plain_case, plain_add, plain_add_clause)

@@ -3,7 +3,7 @@ ghost use Rattle.std.specs.Prelude.{◌≡◌, IfOk};
 ghost use Rattle.ef_parse.specs.Machine as m;
 ghost use Rattle.ef_parse.specs.Shown.{group, part, parts};
 
-use crate::part::{LIMIT, Part, Parts, part_of};
+use crate::part::{LIMIT, Part, Parts, deep, part_of};
 use ef_base::{NoMemory, Place};
 use ef_forms::{Clause, Expr, Node};
 use std::alloc::Global;
@@ -98,21 +98,21 @@ pub fn put_branch(
 pub fn chosen(alloc: Global, start: Place, arg: Part, branches: Group) -> Result<Part, NoMemory>
     ensures { IfOk result (λ q. part q ≡ m.chosen 128 start (part arg) (group branches)) }
 {
-    match (arg, branches) {
-        (
-            Part::Built { expr, nesting, .. },
+    match arg {
+        Part::Built { expr, nesting, .. } => match branches {
             Group::Built {
                 clauses,
                 nesting: most,
-            },
-        ) if nesting < LIMIT && most < LIMIT => {
-            let node = Node::Case {
-                arg: Box::new(alloc, expr)?,
-                clauses,
-            };
-            let whole = Expr { place: start, node };
-            Ok(part_of(start, whole, nesting.max(most) + 1))
-        }
-        _ => Ok(Part::Deep),
+            } if nesting < LIMIT && most < LIMIT => {
+                let node = Node::Case {
+                    arg: Box::new(alloc, expr)?,
+                    clauses,
+                };
+                let whole = Expr { place: start, node };
+                Ok(part_of(start, whole, nesting.max(most) + 1))
+            }
+            other => Ok(deep((expr, other))),
+        },
+        other => Ok(deep((other, branches))),
     }
 }

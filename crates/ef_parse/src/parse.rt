@@ -58,7 +58,10 @@ pub fn clauses(alloc: Global, names: &Names, tokens: &[Token]) -> Result<Vec<Cla
             Group::Built { clauses, .. } => Ok(clauses),
             Group::Deep => Err(fault(alloc, TOO_DEEP, tokens)),
         },
-        Ok(Outcome::Expression(_part)) => Err(fault(alloc, SYNTAX_ERROR, tokens)),
+        Ok(Outcome::Expression(part)) => {
+            drop(part);
+            Err(fault(alloc, SYNTAX_ERROR, tokens))
+        }
         Ok(Outcome::Refused) => Err(fault(alloc, SYNTAX_ERROR, tokens)),
         Err(NoMemory) => Err(Refusal::NoMemory),
     }

@@ -42,7 +42,7 @@ pub fn part_of(start: Place, expr: Expr, nesting: u8) -> Part
             nesting,
         }
     } else {
-        Part::Deep
+        deep(expr)
     }
 }
 
@@ -104,22 +104,22 @@ pub fn list(start: Place, items: Parts) -> Part
 pub fn tailed(alloc: Global, start: Place, items: Parts, tail: Part) -> Result<Part, NoMemory>
     ensures { IfOk result (λ q. part q ≡ m.tailed 128 start (parts items) (part tail)) }
 {
-    match (items, tail) {
-        (
-            Parts::Built {
-                exprs,
-                nesting: most,
-            },
-            Part::Built { expr, nesting, .. },
-        ) if most < LIMIT && nesting < LIMIT => {
-            let node = Node::List {
-                items: exprs,
-                tail: Some(Box::new(alloc, expr)?),
-            };
-            let list = Expr { place: start, node };
-            Ok(part_of(start, list, most.max(nesting) + 1))
-        }
-        _ => Ok(Part::Deep),
+    match items {
+        Parts::Built {
+            exprs,
+            nesting: most,
+        } => match tail {
+            Part::Built { expr, nesting, .. } if most < LIMIT && nesting < LIMIT => {
+                let node = Node::List {
+                    items: exprs,
+                    tail: Some(Box::new(alloc, expr)?),
+                };
+                let list = Expr { place: start, node };
+                Ok(part_of(start, list, most.max(nesting) + 1))
+            }
+            other => Ok(deep((exprs, other))),
+        },
+        other => Ok(deep((other, tail))),
     }
 }
 
@@ -137,33 +137,41 @@ pub fn tuple(start: Place, items: Parts) -> Part
     }
 }
 
+/// Both in boxes.
+fn boxed(alloc: Global, first: Expr, second: Expr) -> Result<(Box<Expr>, Box<Expr>), NoMemory>
+    ensures { IfOk result (λ both. (both.0.value ≡ first) × (both.1.value ≡ second)) }
+{
+    let Ok(first) = Box::new(alloc, first) else {
+        drop(second);
+        return Err(NoMemory);
+    };
+    Ok((first, Box::new(alloc, second)?))
+}
+
 /// The match, at the first token of its left side.
 #[tactic(auto, using(crate::proofs::Plain::laws))]
 pub fn matched(alloc: Global, left: Part, right: Part) -> Result<Part, NoMemory>
     ensures { IfOk result (λ q. part q ≡ m.matched 128 (part left) (part right)) }
 {
-    let Part::Built {
-        start,
-        expr,
-        nesting,
-    } = left
-    else {
-        return Ok(deep(right));
-    };
-    match right {
+    match left {
         Part::Built {
-            expr: value,
-            nesting: own,
-            ..
-        } if nesting < LIMIT && own < LIMIT => {
-            let node = Node::Match {
-                left: Box::new(alloc, expr)?,
-                right: Box::new(alloc, value)?,
-            };
-            let whole = Expr { place: start, node };
-            Ok(part_of(start, whole, nesting.max(own) + 1))
-        }
-        other => Ok(deep((expr, other))),
+            start,
+            expr,
+            nesting,
+        } => match right {
+            Part::Built {
+                expr: value,
+                nesting: own,
+                ..
+            } if nesting < LIMIT && own < LIMIT => {
+                let (left, right) = boxed(alloc, expr, value)?;
+                let node = Node::Match { left, right };
+                let whole = Expr { place: start, node };
+                Ok(part_of(start, whole, nesting.max(own) + 1))
+            }
+            other => Ok(deep((expr, other))),
+        },
+        other => Ok(deep((other, right))),
     }
 }
 
@@ -171,22 +179,28 @@ pub fn matched(alloc: Global, left: Part, right: Part) -> Result<Part, NoMemory>
 pub fn put_in(items: Parts, item: Part) -> Result<Parts, NoMemory>
     ensures { IfOk result (λ q. parts q ≡ m.put_in (parts items) (part item)) }
 {
-    match (items, item) {
-        (
-            Parts::Built { mut exprs, nesting },
+    match items {
+        Parts::Built { mut exprs, nesting } => match item {
             Part::Built {
                 expr,
                 nesting: own,
                 ..
-            },
-        ) => {
-            exprs.push(expr)?;
-            Ok(Parts::Built {
-                exprs,
-                nesting: nesting.max(own),
-            })
+            } => {
+                exprs.push(expr)?;
+                Ok(Parts::Built {
+                    exprs,
+                    nesting: nesting.max(own),
+                })
+            }
+            other => {
+                drop((exprs, other));
+                Ok(Parts::Deep)
+            }
+        },
+        other => {
+            drop((other, item));
+            Ok(Parts::Deep)
         }
-        _ => Ok(Parts::Deep),
     }
 }
 
@@ -204,26 +218,26 @@ pub fn is_none(items: &Parts) -> bool
 pub fn called(alloc: Global, target: Part, args: Parts) -> Result<Part, NoMemory>
     ensures { IfOk result (λ q. part q ≡ m.called 128 (part target) (parts args)) }
 {
-    match (target, args) {
-        (
-            Part::Built {
-                start,
-                expr,
-                nesting,
-            },
+    match target {
+        Part::Built {
+            start,
+            expr,
+            nesting,
+        } => match args {
             Parts::Built {
                 exprs,
                 nesting: most,
-            },
-        ) if nesting < LIMIT && most < LIMIT => {
-            let node = Node::Call {
-                target: Box::new(alloc, expr)?,
-                args: exprs,
-            };
-            let call = Expr { place: start, node };
-            Ok(part_of(start, call, nesting.max(most) + 1))
-        }
-        _ => Ok(Part::Deep),
+            } if nesting < LIMIT && most < LIMIT => {
+                let node = Node::Call {
+                    target: Box::new(alloc, expr)?,
+                    args: exprs,
+                };
+                let call = Expr { place: start, node };
+                Ok(part_of(start, call, nesting.max(most) + 1))
+            }
+            other => Ok(deep((expr, other))),
+        },
+        other => Ok(deep((other, args))),
     }
 }
 
@@ -232,35 +246,34 @@ pub fn called(alloc: Global, target: Part, args: Parts) -> Result<Part, NoMemory
 pub fn called_in(alloc: Global, home: Part, function: Part, args: Parts) -> Result<Part, NoMemory>
     ensures { IfOk result (λ q. part q ≡ m.called_in 128 (part home) (part function) (parts args)) }
 {
-    let Part::Built {
-        start,
-        expr,
-        nesting,
-    } = home
-    else {
-        return Ok(deep((function, args)));
-    };
-    let Part::Built {
-        expr: name,
-        nesting: own,
-        ..
-    } = function
-    else {
-        return Ok(deep((expr, args)));
-    };
-    match args {
-        Parts::Built {
-            exprs,
-            nesting: most,
-        } if nesting < LIMIT && own < LIMIT && most < LIMIT => {
-            let node = Node::Remote {
-                module: Box::new(alloc, expr)?,
-                function: Box::new(alloc, name)?,
-                args: exprs,
-            };
-            let whole = Expr { place: start, node };
-            Ok(part_of(start, whole, nesting.max(own.max(most)) + 1))
-        }
-        other => Ok(deep(((expr, name), other))),
+    match home {
+        Part::Built {
+            start,
+            expr,
+            nesting,
+        } => match function {
+            Part::Built {
+                expr: name,
+                nesting: own,
+                ..
+            } => match args {
+                Parts::Built {
+                    exprs,
+                    nesting: most,
+                } if nesting < LIMIT && own < LIMIT && most < LIMIT => {
+                    let (home, name) = boxed(alloc, expr, name)?;
+                    let node = Node::Remote {
+                        module: home,
+                        function: name,
+                        args: exprs,
+                    };
+                    let whole = Expr { place: start, node };
+                    Ok(part_of(start, whole, nesting.max(own.max(most)) + 1))
+                }
+                other => Ok(deep((expr, name, other))),
+            },
+            other => Ok(deep((expr, other, args))),
+        },
+        other => Ok(deep((other, function, args))),
     }
 }

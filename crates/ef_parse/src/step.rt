@@ -148,9 +148,16 @@ fn followed(
             Ok(Advance::Take(Mode::NeedName(name, clauses)))
         }
         Opener::Branch(start, arg, before, pattern) => {
-            let branches = put_branch(alloc, before, pattern, items)?;
-            stack.push(Frame::InPattern(start, arg, branches))?;
-            Ok(Advance::Take(Mode::Need))
+            match put_branch(alloc, before, pattern, items) {
+                Ok(branches) => {
+                    stack.push(Frame::InPattern(start, arg, branches))?;
+                    Ok(Advance::Take(Mode::Need))
+                }
+                Err(NoMemory) => {
+                    drop(arg);
+                    Err(NoMemory)
+                }
+            }
         }
         other => Ok(refused((other, items))),
     }
@@ -162,9 +169,16 @@ fn concluded(alloc: Global, of: Opener, items: Parts) -> Result<Advance, NoMemor
 {
     match of {
         Opener::Branch(start, arg, before, pattern) => {
-            let branches = put_branch(alloc, before, pattern, items)?;
-            let whole = chosen(alloc, start, arg, branches)?;
-            Ok(Advance::Take(Mode::Have(whole, MAX_LEVEL)))
+            match put_branch(alloc, before, pattern, items) {
+                Ok(branches) => {
+                    let whole = chosen(alloc, start, arg, branches)?;
+                    Ok(Advance::Take(Mode::Have(whole, MAX_LEVEL)))
+                }
+                Err(NoMemory) => {
+                    drop(arg);
+                    Err(NoMemory)
+                }
+            }
         }
         other => Ok(refused((other, items))),
     }
@@ -327,7 +341,10 @@ fn opened(alloc: Global, stack: &mut Vec<Frame>, read: Part) -> Result<Advance, 
     let of = match stack.pop() {
         Some(Frame::AfterColon(module)) => Opener::Remote(module, read),
         Some(other) => {
-            stack.push(other)?;
+            let Ok(()) = stack.push(other) else {
+                drop(read);
+                return Err(NoMemory);
+            };
             Opener::Call(read)
         }
         None => Opener::Call(read),

@@ -176,6 +176,8 @@ fn check(
             check(alloc, names, arg, state, found)?;
             check_clauses(alloc, names, clauses, state, found)
         }
+        // The rest is not built.
+        _ => Ok(()),
     }
 }
 

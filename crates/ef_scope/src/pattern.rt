@@ -50,7 +50,8 @@ pub fn match_patterns(
     Ok(())
 }
 
-// All places see the names that are bound before the pattern. Each variable counts, also in what can't be a pattern.
+// All places see the names that are bound before the pattern. As far as trees are built each variable counts, also in
+// what can't be a pattern.
 #[cycle(pattern)]
 fn check_pattern(
     alloc: Global,
@@ -100,6 +101,8 @@ fn check_pattern(
             check_pattern(alloc, names, arg, state, found, bound)?;
             check_clauses(alloc, names, clauses, state, found, bound)
         }
+        // The rest is not built.
+        _ => Ok(()),
     }
 }
 

@@ -1,5 +1,5 @@
 -- Calls, exports and whole modules.
-use Rattle.std.proofs.Common.{◌≡◌, ℕ, List, [], ◌∷◌, ◌++◌, length, map, sym, ap, ◌∙◌, subst, Bool, true, false, ◌≤◌, arith, Box, Vec}
+use Rattle.std.proofs.Common.{◌≡◌, ℕ, refl, List, [], ◌∷◌, ◌++◌, length, map, sym, ◌∙◌, subst, Bool, true, false, ◌≤◌, arith, Box, Vec}
 use Rattle.std.specs.Prelude.{IsTrue, ◌↔◌, MatchOption, Option, Some}
 use Rattle.std.specs.declared.alloc.Global.{Global}
 use Rattle.ef_base.specs.declared.name.Name.{Name}
@@ -10,11 +10,11 @@ use Rattle.ef_forms.specs.declared.expr.Clause.{Clause, out-Clause}
 use Rattle.ef_forms.specs.declared.expr.Node.TheVariants as node
 use Rattle.ef_forms.specs.declared.form.FunctionRef.{FunctionRef}
 use Rattle.ef_forms.specs.declared.tables.FunctionName.{FunctionName}
-use Rattle.ef_forms.specs.Tree.{Trees, FormTree, PlacedTree, ModuleTree, tree, atom, case_of, count, clause, no_clauses, module_name, export, function}
+use Rattle.ef_forms.specs.Tree.{Trees, FormTree, PlacedTree, ModuleTree, tree, atom, case_of, count, clause, no_clauses, export}
 use Rattle.ef_forms.specs.OfTable.{FormOf, FormsOf, ReferencesOf, ModuleOf, TreeOf, ClausesOf}
-use Rattle.ef_forms.specs.Built.{IsDefined, IsCallOf, IsDistinct, Each, IsBuilt, IsBuiltFunction, IsBuiltTree, AreBuilt, AreBuiltClauses, AreSome, ArePatterns, defined_in, exports_in, exports_of, functions_in, name_of}
-use Rattle.ef_forms.specs.Plain.{plain, plain_node, plain_all, plain_clauses, plain_guard}
-use Rattle.ef_forms.proofs.Plain.{plain_expr, plain_atom, plain_case, counted}
+use Rattle.ef_forms.specs.Built.{IsDefined, IsCallOf, IsDistinct, Each, AreBuiltForms, IsBuilt, IsBuiltFunction, IsBuiltTree, AreBuilt, AreBuiltClauses, AreSome, ArePatterns, defined_in, export_count_in, exports_in, exports_of, functions_in, name_of}
+use Rattle.ef_forms.specs.Plain.{plain, plain_all, plain_clauses, plain_guard}
+use Rattle.ef_forms.proofs.Plain.{laws, opened, clauses_are, counted}
 use Rattle.ef_forms.proofs.Built.{built_later, built_before}
 use Rattle.ef_tables.specs.declared.function_set.FunctionSet.{FunctionSet}
 use Rattle.ef_tables.specs.Sets as sets
@@ -22,7 +22,7 @@ use Rattle.ef_tables.specs.Sets as sets
 pub called : (texts : Texts) (defined : List FunctionName) (e : Expr) (n : Name) (es : List Expr) (b : Bool) → e.node ≡ node.Atom n
     → (IsTrue b ↔ IsDefined texts defined (sets.function n (length es))) → IsTrue b ↔ IsCallOf texts defined (plain e) (count (plain_all es))
 called texts defined e n es b is same =
-    let shape : plain e ≡ tree e.place (atom n) = plain_expr e ∙ ap (tree e.place) (ap plain_node is ∙ plain_atom n) in
+    let shape : plain e ≡ tree e.place (atom n) = grind (arith, laws, is) in
     subst (λ t. IsTrue b ↔ IsCallOf texts defined t (count (plain_all es))) (sym shape)
     (subst (λ k. IsTrue b ↔ IsDefined texts defined (sets.function n k)) (sym (counted es)) same)
 
@@ -35,9 +35,8 @@ export_names texts [] of = tt
 export_names texts (f ∷ fs) of = by_form f.form of.0 (export_names texts fs of.1)
   where
     by_form : (g : FormTree) → FormOf texts g → Each (λ (f : FunctionName). HasName texts f.name) (exports_in fs) → Each (λ (f : FunctionName). HasName texts f.name) (exports_of g ++ exports_in fs)
-    by_form (module_name n) here more = more
     by_form (export rs) here more = reference_names texts rs (exports_in fs) here more
-    by_form (function g) here more = more
+    by_form _ here more = more
 
 pub exported_names : (texts : Texts) (m : ModuleTree) (exports : List FunctionName) → ModuleOf texts m → exports ≡ exports_in m.forms → Each (λ (f : FunctionName). HasName texts f.name) exports
 exported_names texts m exports of is = subst (Each (λ (f : FunctionName). HasName texts f.name)) (sym is) (export_names texts m.forms of.1)
@@ -51,16 +50,18 @@ says_no now m of not all later = (λ wrong. let bad : false ≡ true = wrong in 
 
 pub says : (now : Texts) (m : ModuleTree) (b : Bool) (functions exports : List FunctionName) → ModuleOf now m
     → functions ≡ defined_in m.forms → exports ≡ exports_in m.forms
-    → IsDistinct functions → IsDistinct exports → Each (IsDefined now functions) exports
-    → (IsTrue b ↔ Each (IsBuiltFunction now functions) (functions_in m.forms)) → Tells now m b
-says now m b functions exports of f e distinct_f distinct_e defined bodies all later = (
+    → IsDistinct functions → IsDistinct exports → Each (IsDefined now functions) exports → export_count_in m.forms ≡ 1
+    → (IsTrue b ↔ (AreBuiltForms m.forms × Each (IsBuiltFunction now functions) (functions_in m.forms))) → Tells now m b
+says now m b functions exports of f e distinct_f distinct_e defined one forms all later = (
   λ yes. built_later now all m of later (record {
+    forms = (forms.0 yes).0;
+    one_export = one;
     functions = subst IsDistinct f distinct_f;
     exports = subst IsDistinct e distinct_e;
     exported = subst (λ l. Each (IsDefined now l) (exports_in m.forms)) f (subst (Each (IsDefined now functions)) e defined);
-    bodies = subst (λ l. Each (IsBuiltFunction now l) (functions_in m.forms)) f (bodies.0 yes);
+    bodies = subst (λ l. Each (IsBuiltFunction now l) (functions_in m.forms)) f (forms.0 yes).1;
   }),
-  λ built. bodies.1 (subst (λ l. Each (IsBuiltFunction now l) (functions_in m.forms)) (sym f) (built_before now all m of later built).bodies),
+  λ built. let was = built_before now all m of later built in forms.1 (was.forms, subst (λ l. Each (IsBuiltFunction now l) (functions_in m.forms)) (sym f) was.bodies),
 )
 
 -- ---- clauses
@@ -103,7 +104,7 @@ module _ (texts : Texts) (defined : List FunctionName) (arity : ℕ) (c : Clause
 
 module _ (texts : Texts) (defined : List FunctionName) (e : Expr) (arg : Box Expr Global) (cs : Vec Clause Global) (clauses : List Clause) (is : e.node ≡ node.Case arg cs) (read : clauses ≡ cs.items) where
   case_is : plain e ≡ tree e.place (case_of (plain arg.value) (plain_clauses clauses))
-  case_is = plain_expr e ∙ ap (tree e.place) (ap plain_node is ∙ plain_case arg cs) ∙ ap (λ l. tree e.place (case_of (plain arg.value) (plain_clauses l))) (sym read)
+  case_is = opened e ∙ rw (is, node.outs-Case arg cs, clauses_are cs.items, read) refl
 
   pub clauses_names : TreeOf texts (plain e) → ClausesOf texts (plain_clauses clauses)
   clauses_names names = (subst (TreeOf texts) case_is names).1

@@ -1,7 +1,7 @@
 // Whether a module is one that is built.
 ghost use Rattle.std.specs.Prelude.{◌≡◌, ◌↔◌, ◌∷◌, [], IsTrue, IfOk, MatchOption, map};
 ghost use Rattle.ef_base.specs.Texts.{Extends, HasName, Texts};
-ghost use Rattle.ef_forms.specs.Built.{AreBuilt, AreBuiltClauses, ArePatterns, Each, IsAtom, IsBuilt, IsBuiltFunction, IsBuiltTree, IsCallOf, IsDefined, IsDistinct, IsForeignModule, IsModuleInfo, IsPattern, defined_in, exports_in, functions_in, functions_of};
+ghost use Rattle.ef_forms.specs.Built.{AreBuilt, AreBuiltClauses, AreBuiltForms, ArePatterns, Each, IsAtom, IsBuilt, IsBuiltForm, IsBuiltFunction, IsBuiltTree, IsCallOf, IsDefined, IsDistinct, IsForeignModule, IsModuleInfo, IsPattern, defined_in, export_count_in, exports_in, functions_in, functions_of};
 ghost use Rattle.ef_forms.specs.OfTable.{ClausesOf, FormOf, FormsOf, FunctionOf, ModuleOf, TreeOf, TreesOf};
 ghost use Rattle.ef_forms.specs.Plain.{plain, plain_all, plain_clauses, plain_form, plain_function, plain_module, plain_placed};
 ghost use Rattle.ef_forms.specs.Tree.{count};
@@ -13,11 +13,12 @@ use ef_base::{Name, Names, NoMemory};
 use ef_forms::{Clause, Expr, Form, Function, FunctionName, Module, Node, PlacedForm, Tables};
 use std::alloc::Global;
 
-/// Whether the module is one that is built: the functions that it exports and calls are defined in it, nothing is
-/// defined or exported twice, `module_info/0` and `module_info/1` are not defined, and no call is of the module
-/// `erlang`. Clauses have no guards, each as many patterns as its function has parameters, and a body that isn't empty.
-/// Expressions are variables, `_`, integers, atoms, lists, tuples, matches with patterns, calls, and `case` with a clause
-/// or more, each of one pattern; patterns are the first six. The tables are those of the module.
+/// Whether the module is one that is built: its attributes are `module`, those that are dropped, and one `export`; the
+/// functions that it exports and calls are defined in it, nothing is defined or exported twice, `module_info/0` and
+/// `module_info/1` are not defined, and no call is of the module `erlang`. Clauses have no guards, each as many patterns
+/// as its function has parameters, and a body that isn't empty. Expressions are variables, `_`, integers, atoms, lists,
+/// tuples, matches with patterns, calls, and `case` with a clause or more, each of one pattern; patterns are the first
+/// six. The tables are those of the module.
 pub fn is_built(
     alloc: Global,
     names: &Names,
@@ -36,6 +37,9 @@ pub fn is_built(
         return Ok(false);
     };
     if !are_defined(names, &defined, &tables.exports) {
+        return Ok(false);
+    }
+    if count_exports(&module.forms) != 1 {
         return Ok(false);
     }
     Ok(are_built_forms(names, &defined, &module.forms))
@@ -82,10 +86,23 @@ fn are_defined(names: &Names, defined: &FunctionSet, functions: &[FunctionName])
     true
 }
 
-// Whether the functions among the forms are built.
+// How many export attributes there are.
+fn count_exports(forms: &[PlacedForm]) -> usize
+    ensures { result ≡ export_count_in (map plain_placed forms.now) }
+{
+    let mut count = 0;
+    for placed in forms {
+        if let Form::Export(_) = &placed.form {
+            count += 1;
+        }
+    }
+    count
+}
+
+// Whether the forms are of the kinds that are built, and so are the functions among them.
 fn are_built_forms(names: &Names, defined: &FunctionSet, forms: &[PlacedForm]) -> bool
     requires { FormsOf names.now (map plain_placed forms.now) }
-    ensures { IsTrue result ↔ Each (IsBuiltFunction names.now defined.now) (functions_in (map plain_placed forms.now)) }
+    ensures { IsTrue result ↔ (AreBuiltForms (map plain_placed forms.now) × Each (IsBuiltFunction names.now defined.now) (functions_in (map plain_placed forms.now))) }
 {
     for placed in forms {
         if !is_built_form(names, defined, placed) {
@@ -97,11 +114,12 @@ fn are_built_forms(names: &Names, defined: &FunctionSet, forms: &[PlacedForm]) -
 
 fn is_built_form(names: &Names, defined: &FunctionSet, placed: &PlacedForm) -> bool
     requires { FormOf names.now (plain_form placed.now.form) }
-    ensures { IsTrue result ↔ Each (IsBuiltFunction names.now defined.now) (functions_of (plain_form placed.now.form)) }
+    ensures { IsTrue result ↔ (IsBuiltForm (plain_form placed.now.form) × Each (IsBuiltFunction names.now defined.now) (functions_of (plain_form placed.now.form))) }
 {
     match &placed.form {
         Form::FunctionOf(function) => is_built_function(names, defined, function),
-        Form::ModuleName(_) | Form::Export(_) => true,
+        Form::ModuleName(_) | Form::Export(_) | Form::Dropped => true,
+        _ => false,
     }
 }
 
@@ -159,7 +177,7 @@ fn is_pattern(expr: &Expr) -> bool
             tail: Some(tail),
         } => are_patterns(items) && is_pattern(tail),
         Node::Tuple(items) => are_patterns(items),
-        Node::Match { .. } | Node::Call { .. } | Node::Remote { .. } | Node::Case { .. } => false,
+        _ => false,
     }
 }
 
@@ -206,6 +224,7 @@ fn is_built_expr(names: &Names, defined: &FunctionSet, expr: &Expr) -> bool
             }
             is_built_expr(names, defined, arg) && are_built_clauses(names, defined, 1, clauses)
         }
+        _ => false,
     }
 }
 

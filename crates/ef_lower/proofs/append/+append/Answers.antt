@@ -14,8 +14,9 @@ use Rattle.ef_forms.specs.Plain.{plain, plain_all, plain_clause, plain_clauses}
 use Rattle.ef_forms.specs.Tree as t'
 use Rattle.ef_forms.specs.Tree.{count}
 use Rattle.ef_forms.specs.Weight.{all_weight, clauses_weight, weight}
-use Rattle.ef_forms.proofs.Plain.{counted, plain_atom, plain_call, plain_case, plain_int, plain_list, plain_list_to, plain_match, plain_remote, plain_tuple, plain_var}
-use Rattle.ef_forms.proofs.Takes.{item_falls, take_next, take_weight, take_within}
+use Rattle.ef_forms.proofs.Plain.{counted}
+use Rattle.ef_forms.proofs.Shapes.{plain_atom, plain_call, plain_case, plain_int, plain_list, plain_list_to, plain_match, plain_remote, plain_tuple, plain_var}
+use Rattle.ef_lowpat.proofs.Takes.{item_falls, take_next, take_weight, take_within}
 use Rattle.ef_forms.proofs.expr.Expr.TheLaws.{the_size}
 use Rattle.ef_lowpat.specs.Budgets.{variables_per_unit}
 use Rattle.ef_meaning.specs.Lowers.{AreBelow}
@@ -25,9 +26,10 @@ use Rattle.ef_lower.proofs.Behind.{adds_as, adds_both, adds_none, held_lowers, l
 use Rattle.ef_lower.proofs.ByCase.{case_lowers}
 use Rattle.ef_lower.proofs.LoweredArms.{arms_can_end, arms_more}
 use Rattle.ef_lower.proofs.Made.{apply_lowers, atom_lowers, int_lowers, list_lowers, lowers_as, remote_lowers, tuple_lowers, value_as, var_lowers}
+use Rattle.ef_lower.proofs.Falls.{call_falls, case_falls, tuple_falls}
 use Rattle.ef_lower.proofs.Matching.{match_lowers}
 use Rattle.ef_lower.proofs.OneArm.{front_enough, front_is, one_arm, ready_body, ready_body_as, start_within}
-use Rattle.ef_lower.proofs.Source.{all_left, atom_named, call_defined, case_argument, case_clauses, clause_within, each_get, each_ready, expr_is, grown_within, items_ready, last_place, list_to_tail, match_right, next_left, ready_as, ready_at, ready_left, ready_more, remote_args, take_last, taken, var_bound}
+use Rattle.ef_lower.proofs.Source.{all_left, atom_named, call_args, call_defined, case_argument, case_clauses, clause_within, each_get, each_ready, expr_is, grown_within, items_ready, last_place, list_to_tail, match_right, next_left, ready_as, ready_at, ready_left, ready_more, remote_args, take_last, taken, tuple_items, var_bound}
 use Rattle.ef_lower.proofs.Sizes.{mapped_count}
 use Rattle.ef_lower.proofs.append.+append.Goals as goal
 
@@ -82,6 +84,13 @@ append-returns-in_ok-list_to-in-Some t c =
     ∙ (λ i. t'.tree c.args.expr.now.place (t'.list_to (plain_all (sym c.deref.ensures.value i)) (plain (sym c.deref-in-Some.ensures i)))) in
     adds_both (λ a b k l. lowers_as _ _ is (list_to_lowers _ _ _ _ _ _ k l c.in_ok-list_to-in-Some.ensures)) c.in_ok-items-in-List.ensures (held_lowers _ _ c.in_ok-tail-in-Some.ensures c.in_ok-hold-in-Some.ensures)
 
+pub append-append_all-requires-in-Tuple : goal.append-append_all-requires-in-Tuple
+append-append_all-requires-in-Tuple t c =
+    let is = expr_is c.args.expr.now _ _ c.in-Tuple.is (plain_tuple _) ∙ ap (λ l. t'.tree c.args.expr.now.place (t'.tuple (plain_all l))) (sym c.deref-in-Tuple.ensures.value) in
+    let weighs = ap weight is in
+    let all = c.requires.place.enough in
+    (tuple_falls c.args.expr.now _ _ t c.in-Tuple.is c.deref-in-Tuple.ensures.value c.decreases, (c.requires.words, (tuple_items _ _ _ _ (ready_as _ _ is c.requires.ready), record { readable = c.requires.place.readable; below = c.requires.place.below; enough = omega arith })))
+
 pub append-returns-in_ok-tuple-in-Tuple : goal.append-returns-in_ok-tuple-in-Tuple
 append-returns-in_ok-tuple-in-Tuple t c =
     let is = expr_is c.args.expr.now _ _ c.in-Tuple.is (plain_tuple _) ∙ ap (λ l. t'.tree c.args.expr.now.place (t'.tuple (plain_all l))) (sym c.deref-in-Tuple.ensures.value) in
@@ -103,6 +112,13 @@ append-returns-in_ok-match_value-in-Match t c =
     adds_as (λ a k. lowers_as _ _ is k) (match_lowers _ _ _ _ _ _ _ _ _ _ _ _ _ _ _ _ c.in_ok-value-in-Match.ensures c.in_ok-match_value-in-Match.ensures)
 
 -- ---- calls
+
+pub append-append_all-requires-in-Call : goal.append-append_all-requires-in-Call
+append-append_all-requires-in-Call t c =
+    let is = expr_is c.args.expr.now _ _ c.in-Call.is (plain_call _ _) ∙ ap (λ l. t'.tree c.args.expr.now.place (t'.call (plain c.in-Call.target.value) (plain_all l))) (sym c.deref-in-Call.ensures.value) in
+    let weighs = ap weight is in
+    let all = c.requires.place.enough in
+    (call_falls c.args.expr.now _ _ _ t c.in-Call.is c.deref-in-Call.ensures.value c.decreases, (c.requires.words, (call_args _ _ _ _ _ (ready_as _ _ is c.requires.ready), record { readable = c.requires.place.readable; below = c.requires.place.below; enough = omega arith })))
 
 pub append-apply-requires : goal.append-apply-requires
 append-apply-requires t c =
@@ -265,7 +281,7 @@ append-arms-requires t c =
     let argument = (held_lowers _ _ c.in_ok-value-in-Case.ensures c.in_ok-held-in-Case.ensures).is in
     let drawn = argument.forms.enough in
     let all = c.requires.place.enough in
-    (search (rules, the_lemmas), (c.requires.words, (each_ready _ _ _ c.deref-in-Case-2.result.now (case_clauses _ _ _ _ _ _ argument.forms.names.named (ready_as _ _ is c.requires.ready)), record { readable = argument.forms.names.readable; below = argument.keeps.below; enough = omega arith })))
+    (case_falls c.args.expr.now _ _ _ t c.in-Case.is c.deref-in-Case-2.ensures.value c.decreases, (c.requires.words, (each_ready _ _ _ c.deref-in-Case-2.result.now (case_clauses _ _ _ _ _ _ argument.forms.names.named (ready_as _ _ is c.requires.ready)), record { readable = argument.forms.names.readable; below = argument.keeps.below; enough = omega arith })))
 
 pub append-choose-requires-clause-arms : goal.append-choose-requires-clause-arms
 append-choose-requires-clause-arms t c =

@@ -2,7 +2,8 @@ use Rattle.std.proofs.Common.{sym, ap, ◌∙◌, subst, arith}
 use Rattle.ef_core.specs.Env.{NamesDiffer}
 use Rattle.ef_forms.specs.Plain.{plain_node}
 use Rattle.ef_forms.specs.Tree.{tree}
-use Rattle.ef_forms.proofs.Plain.{plain_any, plain_expr, plain_var}
+use Rattle.ef_forms.proofs.Plain.{plain_expr}
+use Rattle.ef_forms.proofs.Shapes.{plain_any, plain_var}
 use Rattle.ef_lowmod.specs.Parameters.{IsParameter}
 use Rattle.ef_lowmod.proofs.Parameters.{name_pushed, none_pushed, parameters_more}
 use Rattle.ef_lowmod.proofs.function.names_of.Goals as goal

@@ -9,8 +9,8 @@ use Rattle.ef_core.specs.Tree as to
 use Rattle.ef_core.specs.WellFormed.{IsInRange}
 use Rattle.ef_forms.specs.declared.expr.Node.TheVariants as node
 use Rattle.ef_forms.specs.Plain.{plain}
-use Rattle.ef_forms.proofs.Plain.{plain_any, plain_atom, plain_int, plain_list, plain_list_to, plain_tuple, plain_var}
-use Rattle.ef_forms.proofs.Takes.{item_falls, take_next, take_weight, take_within}
+use Rattle.ef_forms.proofs.Shapes.{plain_any, plain_atom, plain_int, plain_list, plain_list_to, plain_tuple, plain_var}
+use Rattle.ef_lowpat.proofs.Takes.{item_falls, take_next, take_weight, take_within}
 use Rattle.ef_forms.proofs.expr.Expr.TheLaws.{the_size}
 use Rattle.ef_lowpat.specs.Lowers.{Notes}
 use Rattle.ef_lowpat.proofs.Lowered.{any_lowers, atom_lowers, int_lowers, items_as, items_below, list_lowers, list_to_lowers, lowers_as, more_lower, none_lower, noted_lowers, tuple_lowers}

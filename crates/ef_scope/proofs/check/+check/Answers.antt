@@ -1,19 +1,19 @@
-use Rattle.std.proofs.Common.{◌∙◌, ap, rules, sym, subst, length, ◌++◌}
+use Rattle.std.proofs.Common.{◌∙◌, ap, refl, rules, sym, subst, length, ◌++◌}
 use Rattle.std.proofs.lemmas.Result.{on_ok_weaker}
 use Rattle.ef_forms.specs.declared.expr.Clause.{out-Clause, the_lemmas}
 use Rattle.ef_forms.specs.declared.expr.Node.TheVariants as node
 use Rattle.ef_forms.specs.OfTable.{ClausesOf, TreeOf}
-use Rattle.ef_forms.specs.Plain.{plain, plain_all, plain_clauses}
+use Rattle.ef_forms.specs.Plain.{plain, plain_all, plain_clauses, plain_node}
 use Rattle.ef_forms.specs.Ways.{all_faults, beside, bind, clauses_faults, clauses_ways, faults, names, pattern_faults, side_by_side, ways}
 use Rattle.ef_forms.proofs.Growth.{grows_beside}
 use Rattle.ef_forms.proofs.Grows.{grows_side, grows_ways}
-use Rattle.ef_forms.proofs.Plain.{plain_any, plain_call, plain_case, plain_list_to, plain_match, plain_remote}
+use Rattle.ef_forms.proofs.Shapes.{other_shape, plain_any, plain_call, plain_case, plain_list, plain_list_to, plain_match, plain_remote, plain_tuple, plain_var}
 use Rattle.ef_scope.proofs.Beside.{beside_end, beside_more, walks_beside}
 use Rattle.ef_scope.proofs.Bodies.{body_end, body_more}
 use Rattle.ef_scope.proofs.Choices.{choices_end, choices_first, choices_more, first_and_rest, walks_clause, walks_no_clauses}
 use Rattle.ef_scope.proofs.Guards.{guard_end, guard_more}
 use Rattle.ef_scope.proofs.Lists.{tree_is}
-use Rattle.ef_scope.proofs.Nodes.{node_walks, literal_walks, of_all, of_clauses, of_one, of_pattern}
+use Rattle.ef_scope.proofs.Nodes.{node_walks, literal_walks, other_walks, of_all, of_clauses, of_one, of_pattern}
 use Rattle.ef_scope.proofs.Parts.{back_to, walks_stay, walks_then}
 use Rattle.ef_scope.proofs.check.+check.Goals as goal
 
@@ -28,6 +28,34 @@ check-returns-in-Int-2 t c = literal_walks c.args.names.now c.args.expr.now c.ar
 pub check-returns-in-Any : goal.check-returns-in-Any
 check-returns-in-Any t c = on_ok_weaker c.add_unbound.result (λ adds.
     node_walks c.args.names.now _ _ _ _ c.args.expr.now _ _ c.in-Any.is plain_any (walks_stay _ c.args.state.now c.args.found.now c.add_unbound.new.found (λ sets shows. adds))) c.add_unbound.ensures
+
+pub check-returns-in-Var : goal.check-returns-in-Var
+check-returns-in-Var t c = on_ok_weaker c.use_name.result (λ walks.
+    node_walks c.args.names.now _ _ _ _ c.args.expr.now _ _ c.in-Var.is (plain_var c.in-Var.name) walks) c.use_name.ensures
+
+pub check-returns-in-Tuple : goal.check-returns-in-Tuple
+check-returns-in-Tuple t c =
+    let texts = c.args.names.now in
+    let items = c.in-Tuple.items in
+    on_ok_weaker c.check_all-in-Tuple.result (λ walks.
+    node_walks texts _ _ _ _ c.args.expr.now _ _ c.in-Tuple.is (plain_tuple items)
+    (of_all texts _ _ _ _ c.deref-in-Tuple.result.now items.items c.deref-in-Tuple.ensures.value walks)) c.check_all-in-Tuple.ensures
+
+pub check-returns-in_default-tail : goal.check-returns-in_default-tail
+check-returns-in_default-tail t c =
+    let texts = c.args.names.now in
+    let items = c.in-List.items in
+    on_ok_weaker c.check_all.result (λ walks.
+    node_walks texts _ _ _ _ c.args.expr.now _ _ (c.in-List.is ∙ ap (node.List items) c.in_default-tail.is) (plain_list items)
+    (of_all texts _ _ _ _ c.deref.result.now items.items c.deref.ensures.value walks)) c.check_all.ensures
+
+pub check-returns-in_default : goal.check-returns-in_default
+check-returns-in_default t c =
+    let texts = c.args.names.now in
+    let expr = c.args.expr.now in
+    let no = c.in_default in
+    node_walks texts _ _ _ _ expr _ _ refl refl (other_walks texts expr.place (plain_node expr.node) c.args.state.now c.args.found.now
+    (other_shape expr.node no.not-Int no.not-Atom no.not-Var no.not-Any no.not-List no.not-Tuple no.not-Match no.not-Call no.not-Remote no.not-Case))
 
 pub check-returns-in_ok-check-in-Match : goal.check-returns-in_ok-check-in-Match
 check-returns-in_ok-check-in-Match t c =

@@ -4,10 +4,10 @@ use Rattle.std.proofs.lemmas.Result.{on_ok_weaker}
 use Rattle.ef_forms.specs.declared.expr.Clause.{out-Clause, the_lemmas}
 use Rattle.ef_forms.specs.declared.expr.Node.TheVariants as node
 use Rattle.ef_forms.specs.OfTable.{ClausesOf, TreeOf}
-use Rattle.ef_forms.specs.Plain.{plain, plain_clauses}
-use Rattle.ef_forms.specs.Ways.{clauses_names, names}
+use Rattle.ef_forms.specs.Plain.{plain, plain_all, plain_clauses}
+use Rattle.ef_forms.specs.Ways.{all_names, clauses_names, names}
 use Rattle.ef_forms.proofs.Bools.{or_assoc}
-use Rattle.ef_forms.proofs.Plain.{plain_call, plain_case, plain_list_to, plain_match, plain_remote, plain_tuple, plain_var}
+use Rattle.ef_forms.proofs.Shapes.{plain_call, plain_case, plain_list_to, plain_match, plain_remote, plain_tuple, plain_var}
 use Rattle.ef_scope.specs.Trail.{has}
 use Rattle.ef_scope.proofs.Adds.{adds_then}
 use Rattle.ef_scope.proofs.Lists.{tree_is}
@@ -120,6 +120,23 @@ check_pattern-returns-in_ok-check_pattern-in-Remote-2-clause-faults t c =
     (adds_then first second new _ _
     (one_adds names c.deref-in-Remote-2.result.now of.function.value sets first second c.deref-in-Remote-2.ensures (c.in_ok-check_pattern-in-Remote-2.ensures.faults sets shows))
     (all_adds names c.deref-in-Remote-3.result.now of.args.items sets second new c.deref-in-Remote-3.ensures.value (adds sets shows))))) c.check_patterns-in-Remote.ensures.faults
+
+pub check_pattern-returns-in_ok-check_pattern-in-Remote-2-clause-names : goal.check_pattern-returns-in_ok-check_pattern-in-Remote-2-clause-names
+check_pattern-returns-in_ok-check_pattern-in-Remote-2-clause-names t c =
+    let of = c.in-Remote in
+    let before = c.args.bound.now.items in
+    let one = c.check_pattern-in-Remote.new.bound.items in
+    let two = c.check_pattern-in-Remote-2.new.bound.items in
+    let home = plain of.«module».value in
+    let called = plain of.function.value in
+    let args = plain_all of.args.items in
+    on_ok_weaker c.check_patterns-in-Remote.result (λ binds m.
+    pattern_names c.args.pattern.now _ _ m _ _ of.is (plain_remote of.«module» of.function of.args)
+    (binds m ∙ ap (λ l. has two m || all_names (plain_all l) m) c.deref-in-Remote-3.ensures.value
+    ∙ ap (λ z. z || all_names args m) (c.in_ok-check_pattern-in-Remote-2.ensures.names m ∙ ap (λ e. has one m || names (plain e) m) c.deref-in-Remote-2.ensures
+    ∙ ap (λ z. z || names called m) (c.in_ok-check_pattern-in-Remote.ensures.names m ∙ ap (λ e. has before m || names (plain e) m) c.deref-in-Remote.ensures))
+    ∙ or_assoc (has before m || names home m) (names called m) (all_names args m)
+    ∙ or_assoc (has before m) (names home m) (names called m || all_names args m))) c.check_patterns-in-Remote.ensures.names
 
 pub check_pattern-check_clauses-requires : goal.check_pattern-check_clauses-requires
 check_pattern-check_clauses-requires t c =

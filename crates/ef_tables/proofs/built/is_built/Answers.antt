@@ -1,6 +1,6 @@
-use Rattle.std.proofs.Common.{◌∙◌, sym, subst, map}
+use Rattle.std.proofs.Common.{◌≡◌, ◌∙◌, sym, subst, map}
 use Rattle.std.specs.Prelude.{IsTrue, ◌↔◌}
-use Rattle.ef_forms.specs.Built.{Each, IsBuiltFunction, IsDistinct, functions_in}
+use Rattle.ef_forms.specs.Built.{AreBuiltForms, Each, IsBuiltFunction, IsDistinct, export_count_in, functions_in}
 use Rattle.ef_forms.specs.Plain.{plain_module, plain_placed}
 use Rattle.ef_tables.proofs.Calls.{exported_names, says, says_no, found_set, undefined}
 use Rattle.ef_tables.proofs.built.is_built.Goals as goal
@@ -27,4 +27,5 @@ returns c =
     (subst IsDistinct (sym set.1) set.0)
     (subst IsDistinct (c.deref-2.ensures.value ∙ sym c.deref-3.ensures.value) others.0)
     (c.are_defined.ensures.0 c.if-not-are_defined.false)
-    (subst (λ l. IsTrue c.are_built_forms.result ↔ Each (IsBuiltFunction c.args.names.now c.in-Some.defined) (functions_in (map plain_placed l))) c.deref-4.ensures.value c.are_built_forms.ensures)
+    (subst (λ l. export_count_in (map plain_placed l) ≡ 1) c.deref-4.ensures.value (sym c.count_exports.ensures ∙ c.if-count_exports-ne1.false))
+    (subst (λ l. IsTrue c.are_built_forms.result ↔ (AreBuiltForms (map plain_placed l) × Each (IsBuiltFunction c.args.names.now c.in-Some.defined) (functions_in (map plain_placed l)))) c.deref-5.ensures.value c.are_built_forms.ensures)

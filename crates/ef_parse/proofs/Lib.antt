@@ -1,13 +1,2 @@
-pub mod Plain
-pub mod Stack
-pub mod Parts
-pub mod Depths
-pub mod OfTable
-pub mod Later
-pub mod Seen
-pub mod Complete
-pub mod Open
-pub mod Sound
-pub mod One
-pub mod Runs
-pub mod Answered
+pub mod Answers
+pub mod Renamed

@@ -1,4 +1,1 @@
-pub mod Grammar
-pub mod Machine
-pub mod Shown
-pub mod Reads
+pub mod Spelled

@@ -1,12 +1,6 @@
-//! The parser of expressions and clauses: it gives the one tree that the tokens spell, or says that there is none.
+//! The parser: it gives the one tree that tokens spell by the rows of the grammar, or says that there is none.
 #![tactic(auto)]
 
-mod ahead;
-mod frame;
-mod group;
-mod parse;
-mod part;
-mod step;
+mod spelled;
 
-pub use ahead::{first_name, start_of};
-pub use parse::{clauses, expression};
+pub use spelled::{FormKind, Spelled, clauses, expression, spelled_form, start_of};

@@ -1,92 +1,58 @@
--- The grammar of forms and of modules, as far as it is built.
-use Rattle.std.specs.Prelude.{ℕ, ◌^◌, ◌-◌, ◌≤◌, ◌≡◌, min, pos, List, [], ◌∷◌, ◌++◌, codes, length}
-use Rattle.ef_base.specs.declared.name.Name.{Name}
-use Rattle.ef_base.specs.declared.fault.Place.{Place}
-use Rattle.ef_base.specs.Texts.{Texts, IsNameOf}
-use Rattle.ef_token.specs.declared.token.TokenKind.TheVariants as kind
+-- What is answered for the tokens of a form.
+use Rattle.std.specs.Prelude.{◌≡◌, ◌≢◌, codes, Bool, false, List, [], ◌∷◌, ◌++◌, cond}
+use Rattle.ef_base.specs.declared.fault.Fault.{Fault}
+use Rattle.ef_base.specs.Faults.{set_of}
+use Rattle.ef_base.specs.NamedFaults.{too_deep}
+use Rattle.ef_base.specs.Texts.{Texts}
 use Rattle.ef_token.specs.declared.token.Token.{Token}
-use Rattle.ef_token.specs.declared.word.Sym.TheVariants as sym
-use Rattle.ef_forms.specs.declared.form.FunctionRef.{FunctionRef}
-use Rattle.ef_forms.specs.Tree.{Clauses, FormTree, PlacedTree, ModuleTree, module_name, export, function, clause, no_clauses, count}
-use Rattle.ef_forms.specs.Built.{AreNarrowClauses, functions_in, most_arguments, most_functions}
-use Rattle.ef_parse.specs.Grammar.{token, symbol, start_of, SpellsClauses}
+use Rattle.ef_forms.specs.Nodes.{form_nodes}
+use Rattle.ef_forms.specs.Tree.{FormTree, attribute, dropped, export_all}
+use Rattle.ef_parse.specs.Spelled.{start_of, IsDeepForm, IsNoForm, SpellsForm}
+use Rattle.ef_module.specs.declared.forms.FormRefusal.{FormRefusal}
+use Rattle.ef_module.specs.declared.forms.FormRefusal.TheVariants.{Faulty, NoMemory}
+use Rattle.ef_module.specs.Kinds.{kind_of, not_spelled}
+use Rattle.ef_module.specs.Refused.{token_faults}
+use Rattle.ef_module.specs.Unbuilt.{is_text, mentions, tree_faults}
 
--- the greatest nesting of a form
-abbrev pub most_nesting : ℕ
-most_nesting = 128
+abbrev pub is_compile : Texts → FormTree → Bool
+is_compile all (attribute n e) = is_text all (codes "compile") n
+is_compile all _ = false
 
--- `Name/Arity`; a greater number stands as the greatest of 32 bits
-pub data SpellsReference : FunctionRef → List Token → Type 0 where
-  a_reference : (n : Name) (arity : ℕ) (p q r : Place)
-      → SpellsReference (record { place = p; name = n; arity = min arity (2 ^ 32 - 1) })
-      (token (kind.Atom n) p ∷ symbol sym.Slash q ∷ token (kind.Int (pos arity)) r ∷ [])
+-- `-compile(..)` exports all functions where it says so, and has no other meaning
+abbrev pub kept : Texts → FormTree → FormTree
+kept all f = cond (is_compile all f) (cond (mentions all (codes "export_all") (form_nodes f)) export_all dropped) f
 
--- one or more, with commas between
-pub data SpellsReferences : List FunctionRef → List Token → Type 0 where
-  one : (f : FunctionRef) (ts : List Token) → SpellsReference f ts → SpellsReferences (f ∷ []) ts
-  and_more : (f : FunctionRef) (fs : List FunctionRef) (p : Place) (ts us : List Token) → SpellsReference f ts → SpellsReferences fs us
-      → SpellsReferences (f ∷ fs) (ts ++ symbol sym.Comma p ∷ us)
+-- The answer for the tokens of a form, in the order in which faults are looked for: those of tokens, and nothing else where
+-- there are some; then that no form is spelled; that one is nested too deep; the faults of its heads and of its tree.
+pub data FormFaults (all : Texts) (ts : List Token) : List Fault → Type 0 where
+  of_tokens : token_faults all ts ≢ [] → FormFaults all ts (token_faults all ts)
+  is_not_spelled : token_faults all ts ≡ [] → IsNoForm all (kind_of all ts) ts → FormFaults all ts (not_spelled all ts ∷ [])
+  is_too_deep : token_faults all ts ≡ [] → IsDeepForm all (kind_of all ts) ts → FormFaults all ts (too_deep (start_of ts) ∷ [])
+  of_tree : (f : FormTree) (heads : List Fault) → token_faults all ts ≡ [] → SpellsForm all (kind_of all ts) f heads ts
+      → heads ++ tree_faults all (start_of ts) f ≢ [] → FormFaults all ts (heads ++ tree_faults all (start_of ts) f)
 
--- none or more
-pub data SpellsReferenceList : List FunctionRef → List Token → Type 0 where
-  nothing : SpellsReferenceList [] []
-  some : (fs : List FunctionRef) (ts : List Token) → SpellsReferences fs ts → SpellsReferenceList fs ts
+-- the form that is spelled without a fault, as far as it has a meaning
+pub record ReadsForm (all : Texts) (f : FormTree) (ts : List Token) : Type 0 where
+  pub written : FormTree
+  pub tokens : token_faults all ts ≡ []
+  pub spelled : SpellsForm all (kind_of all ts) written [] ts
+  pub tree : tree_faults all (start_of ts) written ≡ []
+  pub is : f ≡ kept all written
 
--- the number of patterns of the first clause
-abbrev pub arity_of : Clauses → ℕ
-arity_of no_clauses = 0
-arity_of (clause p ps g es cs) = count ps
+-- the one form that is read, or the faults, sorted
+pub record IsForm (all : Texts) (f : FormTree) (ts : List Token) : Type 0 where
+  pub reads : ReadsForm all f ts
+  pub alone : (other : FormTree) → ReadsForm all other ts → other ≡ f
+  pub faultless : (faults : List Fault) → FormFaults all ts faults → ⊥
 
--- the tokens, the full stop among them, spell the form
-pub data SpellsForm (all : Texts) : FormTree → List Token → Type 0 where
-  a_module_name : (m n : Name) (p q r s t u : Place) → IsNameOf all m (codes "module")
-      → SpellsForm all (module_name n)
-      (symbol sym.Minus p ∷ token (kind.Atom m) q ∷ symbol sym.LeftParen r ∷ token (kind.Atom n) s ∷ symbol sym.RightParen t
-      ∷ token kind.Dot u ∷ [])
-  an_export : (m : Name) (fs : List FunctionRef) (p q r s t u v : Place) (ts : List Token) → IsNameOf all m (codes "export")
-      → SpellsReferenceList fs ts
-      → SpellsForm all (export fs)
-      (symbol sym.Minus p ∷ token (kind.Atom m) q ∷ symbol sym.LeftParen r ∷ symbol sym.LeftBracket s
-      ∷ (ts ++ symbol sym.RightBracket t ∷ symbol sym.RightParen u ∷ token kind.Dot v ∷ []))
-  a_function : (n : Name) (cs : Clauses) (d : ℕ) (p : Place) (ts : List Token) → SpellsClauses all n cs d ts → d ≤ most_nesting
-      → SpellsForm all (function (record { place = start_of ts; name = n; arity = arity_of cs; clauses = cs })) (ts ++ token kind.Dot p ∷ [])
+pub record AreFormFaults (all : Texts) (ts : List Token) (faults : List Fault) : Type 0 where
+  pub written : List Fault
+  pub found : FormFaults all ts written
+  pub sorted : faults ≡ set_of written
+  pub some : faults ≢ []
+  pub alone : (others : List Fault) → FormFaults all ts others → set_of others ≡ faults
+  pub unread : (f : FormTree) → ReadsForm all f ts → ⊥
 
--- no more arguments and no greater arity than the limit
-abbrev pub AreNarrowReferences : List FunctionRef → Type 0
-AreNarrowReferences [] = Unit {0}
-AreNarrowReferences (f ∷ fs) = (f.arity ≤ most_arguments) × AreNarrowReferences fs
-
-abbrev pub IsNarrowForm : FormTree → Type 0
-IsNarrowForm (module_name n) = Unit {0}
-IsNarrowForm (export fs) = AreNarrowReferences fs
-IsNarrowForm (function f) = AreNarrowClauses f.clauses
-IsNarrowForm _ = Unit {0}
-
--- each form is spelled within the limits, and stands at its first token
-abbrev pub SpellsForms : Texts → List PlacedTree → List (List Token) → Type 0
-SpellsForms all [] [] = Unit {0}
-SpellsForms all (f ∷ fs) (ts ∷ tss) = (f.place ≡ start_of ts) × SpellsForm all f.form ts × IsNarrowForm f.form × SpellsForms all fs tss
-SpellsForms all _ _ = ⊥
-
-abbrev pub IsExport : FormTree → Type 0
-IsExport (export refs) = Unit {0}
-IsExport _ = ⊥
-
-abbrev pub IsFunction : FormTree → Type 0
-IsFunction (function g) = Unit {0}
-IsFunction _ = ⊥
-
-abbrev pub AreFunctions : List PlacedTree → Type 0
-AreFunctions [] = Unit {0}
-AreFunctions (f ∷ fs) = IsFunction f.form × AreFunctions fs
-
--- the module attribute, the one export attribute, and then functions
-abbrev pub IsInOrder : Name → List PlacedTree → Type 0
-IsInOrder name (f ∷ g ∷ fs) = (f.form ≡ module_name name) × IsExport g.form × AreFunctions fs
-IsInOrder name _ = ⊥
-
--- the forms spell the module within the limits
-pub record SpellsModule (all : Texts) (m : ModuleTree) (forms : List (List Token)) : Type 0 where
-  pub spelled : SpellsForms all m.forms forms
-  pub in_order : IsInOrder m.name m.forms
-  pub few : length (functions_in m.forms) ≤ most_functions
+abbrev pub IsFormRefused : Texts → List Token → FormRefusal → Type 0
+IsFormRefused all ts (Faulty faults) = AreFormFaults all ts faults
+IsFormRefused all ts NoMemory = Unit {0}

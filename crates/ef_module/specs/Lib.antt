@@ -1,4 +1,7 @@
+pub mod Kinds
+pub mod Refused
+pub mod Unbuilt
 pub mod Forms
-pub mod Attribute
-pub mod Narrow
-pub mod Read
+pub mod Modules
+pub mod Adds
+pub mod Found

@@ -1,12 +1,14 @@
-//! Forms and modules: the tree that the tokens spell within the limits, or that there is none.
+//! Forms and modules: the tree that the tokens spell, or the faults that refuse it.
 #![tactic(auto)]
 
-mod ahead;
-mod attribute;
+mod add;
+mod attributes;
 mod forms;
-mod function;
+mod kinds;
 mod modules;
-mod narrow;
+mod order;
+mod refused;
+mod unbuilt;
 
 pub use forms::{FormRefusal, form};
 pub use modules::module;

@@ -1,129 +1,112 @@
 // Modules.
-ghost use Rattle.std.specs.Prelude.{◌≡◌, IfOk, IfErr, map};
-ghost use Rattle.ef_token.specs.TokenForm.{AreForms, AllTokensOf};
-ghost use Rattle.ef_forms.specs.Plain.{plain_form, plain_module, plain_placed};
+ghost use Rattle.std.specs.Prelude.{◌≡◌, List, [], ◌∷◌, ◌++◌, IfOk, IfErr, OnOk, map};
+ghost use Rattle.ef_base.specs.Texts.{Extends, Texts};
 ghost use Rattle.ef_forms.specs.OfTable.{ModuleOf};
-ghost use Rattle.ef_module.specs.Read.{ReadsModule, IsModuleRefused, IsReadForms, IsReadModule, lists, name_in, module_named, is_export, is_function, are_functions};
+ghost use Rattle.ef_forms.specs.Plain.{plain_form, plain_module, plain_placed};
+ghost use Rattle.ef_token.specs.TokenForm.{AllTokensOf, AreForms, TokensOf};
+ghost use Rattle.ef_token.specs.declared.token.Token.{Token as TheToken};
+ghost use Rattle.ef_module.specs.Adds.{Adds};
+ghost use Rattle.ef_module.specs.Found.{AreFound, IsModuleFound};
+ghost use Rattle.ef_module.specs.Modules as m;
+ghost use Rattle.ef_module.specs.Modules.{lists};
 
-use crate::forms::{FormRefusal, not_built, read_form};
-use ef_base::{Name, Names, NoMemory};
-use ef_forms::{Form, Module, PlacedForm};
+use crate::forms::{FormRefusal, read_form};
+use crate::order::{add_order_faults, module_named};
+use ef_base::{FaultList, Name, Names, NoMemory};
+use ef_forms::{Module, PlacedForm};
 use ef_parse::start_of;
 use ef_token::Token;
 use std::alloc::Global;
 
-/// The two attributes, and the most functions.
-const MOST_FORMS: usize = 65_538;
-
-/// The module that the forms spell within the limits.
+/// The module that the forms spell, or the faults of all forms and those of their order and number.
 pub fn module(alloc: Global, names: &mut Names, forms: &[Vec<Token>]) -> Result<Module, FormRefusal>
     requires ends { AreForms (lists forms.now) }
     requires named { AllTokensOf names.old (lists forms.now) }
     ensures kept { names.new ≡ names.old }
-    ensures read { IfOk result (λ made. ReadsModule names.new (plain_module made) (lists forms.now)) }
-    ensures of_table { IfOk result (λ made. ModuleOf names.new (plain_module made)) }
-    ensures refused { IfErr result (λ refusal. IsModuleRefused names.new (lists forms.now) refusal) }
+    ensures read { IfOk result (λ made. (all : Texts) → Extends names.new all → m.IsModule all (plain_module made) (lists forms.now)) }
+    ensures of_table { IfOk result (λ made. (all : Texts) → Extends names.new all → ModuleOf all (plain_module made)) }
+    ensures refused { IfErr result (λ refusal. (all : Texts) → Extends names.new all → m.IsModuleRefused all (lists forms.now) refusal) }
 {
-    match read_module(alloc, names, forms) {
+    let mut found = FaultList::new(alloc);
+    match find_module(alloc, names, forms, &mut found) {
         Ok(Some(module)) => Ok(module),
-        Ok(None) => Err(not_built(alloc)),
+        Ok(None) => Err(FormRefusal::Faulty(found)),
         Err(NoMemory) => Err(FormRefusal::NoMemory),
     }
 }
 
-fn read_module(
+// The module, or its faults.
+fn find_module(
     alloc: Global,
     names: &Names,
     forms: &[Vec<Token>],
+    found: &mut FaultList,
 ) -> Result<Option<Module>, NoMemory>
-    requires ends { AreForms (lists forms.now) }
     requires named { AllTokensOf names.now (lists forms.now) }
-    ensures { IfOk result (λ made. IsReadModule names.now (lists forms.now) made) }
+    requires none { found.old ≡ [] }
+    ensures { IfOk result (λ made. (all : Texts) → Extends names.now all → IsModuleFound all (lists forms.now) made found.new) }
 {
-    let Some(placed) = read_forms(alloc, names, forms)? else {
-        return Ok(None);
-    };
-    let Some(name) = name_of(placed.as_slice()) else {
-        return Ok(None);
-    };
-    if placed.len() > MOST_FORMS {
+    let placed = find_forms(alloc, names, forms, found)?;
+    add_order_faults(alloc, names, forms, &placed, found)?;
+    if !found.is_empty() {
+        drop(placed);
         return Ok(None);
     }
+    let Some(name) = first_name(&placed) else {
+        unreachable!()
+    };
     Ok(Some(Module {
         name,
         forms: placed,
     }))
 }
 
-fn read_forms(
+// The forms that are read, and the faults of the others.
+fn find_forms(
     alloc: Global,
     names: &Names,
     forms: &[Vec<Token>],
-) -> Result<Option<Vec<PlacedForm>>, NoMemory>
-    requires ends { AreForms (lists forms.now) }
+    found: &mut FaultList,
+) -> Result<Vec<PlacedForm>, NoMemory>
     requires named { AllTokensOf names.now (lists forms.now) }
-    ensures { IfOk result (λ made. IsReadForms names.now (lists forms.now) made) }
+    requires none { found.old ≡ [] }
+    ensures { IfOk result (λ placed. (all : Texts) → Extends names.now all → AreFound all (lists forms.now) (map plain_placed placed.items) found.new) }
 {
     let mut placed = Vec::new(alloc);
     for tokens in forms {
-        let Some(form) = read_form(alloc, names, tokens.as_slice())? else {
-            return Ok(None);
-        };
-        let place = start_of(tokens.as_slice());
-        placed.push(PlacedForm { place, form })?;
+        find_next(alloc, names, tokens, &mut placed, found)?;
     }
-    Ok(Some(placed))
+    Ok(placed)
 }
 
-/// The name of the module, if its forms are the two attributes and functions behind them.
-fn name_of(forms: &[PlacedForm]) -> Option<Name>
-    ensures { result ≡ name_in (map plain_placed forms.now) }
+// Reads one more form, or adds its faults.
+fn find_next(
+    alloc: Global,
+    names: &Names,
+    tokens: &[Token],
+    placed: &mut Vec<PlacedForm>,
+    found: &mut FaultList,
+) -> Result<(), NoMemory>
+    requires { TokensOf names.now tokens.now }
+    ensures { OnOk result ((all : Texts) → Extends names.now all → (before : List (List TheToken)) → AreFound all before (map plain_placed placed.old.items) found.old → AreFound all (before ++ tokens.now ∷ []) (map plain_placed placed.new.items) found.new) }
 {
-    if forms.len() < 2 {
-        return None;
-    }
-    let rest = &forms[2..];
-    if is_export(&forms[1].form) && are_functions(rest) {
-        module_named(&forms[0].form)
-    } else {
-        None
-    }
-}
-
-fn module_named(form: &Form) -> Option<Name>
-    ensures { result ≡ module_named (plain_form form.now) }
-{
-    match form {
-        Form::ModuleName(name) => Some(*name),
-        _ => None,
-    }
-}
-
-fn is_export(form: &Form) -> bool
-    ensures { result ≡ is_export (plain_form form.now) }
-{
-    match form {
-        Form::Export(_) => true,
-        _ => false,
-    }
-}
-
-fn is_function(form: &Form) -> bool
-    ensures { result ≡ is_function (plain_form form.now) }
-{
-    match form {
-        Form::FunctionOf(_) => true,
-        _ => false,
-    }
-}
-
-fn are_functions(forms: &[PlacedForm]) -> bool
-    ensures { result ≡ are_functions (map plain_placed forms.now) }
-{
-    for form in forms {
-        if !is_function(&form.form) {
-            return false;
+    match read_form(alloc, names, tokens) {
+        Ok(form) => {
+            let place = start_of(tokens);
+            placed.push(PlacedForm { place, form })?;
+            Ok(())
         }
+        Err(FormRefusal::Faulty(faults)) => found.append(faults),
+        Err(FormRefusal::NoMemory) => Err(NoMemory),
     }
-    true
+}
+
+// The name of the module whose attribute stands first.
+fn first_name(forms: &[PlacedForm]) -> Option<Name>
+    ensures { result ≡ m.first_name (map plain_placed forms.now) }
+{
+    match forms {
+        [first, ..] => module_named(&first.form),
+        [] => None,
+    }
 }

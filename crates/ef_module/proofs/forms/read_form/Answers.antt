@@ -1,16 +1,19 @@
-use Rattle.std.proofs.Common.{◌∙◌, sym, length, take, ◌-◌}
-use Rattle.std.proofs.lemmas.Result.{IfOk-weaker}
-use Rattle.ef_module.proofs.FormRead.{attribute_read, function_read, before_dot, named_before}
+use Rattle.std.proofs.Common.{subst, Some}
+use Rattle.ef_module.specs.Found.{IsFound}
 use Rattle.ef_module.proofs.forms.read_form.Goals as goal
 
-pub returns-then-is_attribute : goal.returns-then-is_attribute
-returns-then-is_attribute c =
-    IfOk-weaker c.attribute.result _ _ (λ made a. attribute_read c.args.names.now c.args.tokens.now made c.requires.named (sym c.is_attribute.ensures ∙ c.if-is_attribute.true) a) c.attribute.ensures
+pub returns-in-Ok-Some-clause-read : goal.returns-in-Ok-Some-clause-read
+returns-in-Ok-Some-clause-read c = λ all e.
+    let r : IsFound all c.args.tokens.now (Some c.in-Ok-Some.form) c.find_form.new.found =
+    subst (λ o. IsFound all c.args.tokens.now o c.find_form.new.found) c.in-Ok-Some.field-0-is (c.in-Ok-Some.ensures all e) in
+    r.0
 
-pub function-requires : goal.function-requires
-function-requires c = named_before c.args.names.now c.args.tokens.now c.requires.ends c.requires.named
+pub returns-in-Ok-Some-clause-of_table : goal.returns-in-Ok-Some-clause-of_table
+returns-in-Ok-Some-clause-of_table c = λ all e.
+    let r : IsFound all c.args.tokens.now (Some c.in-Ok-Some.form) c.find_form.new.found =
+    subst (λ o. IsFound all c.args.tokens.now o c.find_form.new.found) c.in-Ok-Some.field-0-is (c.in-Ok-Some.ensures all e) in
+    r.1
 
-pub returns-else-is_attribute : goal.returns-else-is_attribute
-returns-else-is_attribute c =
-    let before = before_dot c.args.tokens.now c.requires.ends in
-    IfOk-weaker c.function.result _ _ (λ made r. function_read c.args.names.now c.args.tokens.now (take (length c.args.tokens.now - 1) c.args.tokens.now) before.0 made before.1 (sym c.is_attribute.ensures ∙ c.if-is_attribute.false) r) c.function.ensures
+pub returns-in-Ok-None-clause-refused : goal.returns-in-Ok-None-clause-refused
+returns-in-Ok-None-clause-refused c = λ all e.
+    subst (λ o. IsFound all c.args.tokens.now o c.find_form.new.found) c.in-Ok-None.field-0-is (c.in-Ok-None.ensures all e)

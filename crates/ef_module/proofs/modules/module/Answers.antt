@@ -1,10 +1,22 @@
-use Rattle.std.proofs.Common.{subst}
-use Rattle.ef_forms.specs.Plain.{plain_module}
-use Rattle.ef_module.specs.Read.{IsReadModule, lists}
-use Rattle.ef_module.proofs.ModuleRead.{module_of}
+use Rattle.std.proofs.Common.{subst, Some}
+use Rattle.ef_module.specs.Found.{IsModuleFound}
+use Rattle.ef_module.specs.Modules.{lists}
 use Rattle.ef_module.proofs.modules.module.Goals as goal
 
+pub returns-in-Ok-Some-clause-read : goal.returns-in-Ok-Some-clause-read
+returns-in-Ok-Some-clause-read c = λ all e.
+    let tss = lists c.args.forms.now in
+    let r : IsModuleFound all tss (Some c.in-Ok-Some.module) c.find_module.new.found =
+    subst (λ o. IsModuleFound all tss o c.find_module.new.found) c.in-Ok-Some.field-0-is (c.in-Ok-Some.ensures all e) in
+    r.0
+
 pub returns-in-Ok-Some-clause-of_table : goal.returns-in-Ok-Some-clause-of_table
-returns-in-Ok-Some-clause-of_table c =
-    module_of c.args.names.now (plain_module c.in-Ok-Some.module) (lists c.args.forms.now)
-    (subst (IsReadModule c.args.names.now (lists c.args.forms.now)) c.in-Ok-Some.field-0-is c.in-Ok-Some.ensures) c.requires.named
+returns-in-Ok-Some-clause-of_table c = λ all e.
+    let tss = lists c.args.forms.now in
+    let r : IsModuleFound all tss (Some c.in-Ok-Some.module) c.find_module.new.found =
+    subst (λ o. IsModuleFound all tss o c.find_module.new.found) c.in-Ok-Some.field-0-is (c.in-Ok-Some.ensures all e) in
+    r.1
+
+pub returns-in-Ok-None-clause-refused : goal.returns-in-Ok-None-clause-refused
+returns-in-Ok-None-clause-refused c = λ all e.
+    subst (λ o. IsModuleFound all (lists c.args.forms.now) o c.find_module.new.found) c.in-Ok-None.field-0-is (c.in-Ok-None.ensures all e)

@@ -1,0 +1,13 @@
+use Rattle.std.proofs.Common.{sym, subst, ap, ◌∙◌}
+use Rattle.ef_base.specs.Faults.{insert_fault}
+use Rattle.ef_base.specs.NamedFaults as fault
+use Rattle.ef_module.specs.Adds.{Adds}
+use Rattle.ef_module.specs.Refused.{refusal}
+use Rattle.ef_module.proofs.Adding.{adds_one}
+use Rattle.ef_module.proofs.refused.add_fault.Goals as goal
+
+pub returns-in_ok-push : goal.returns-in_ok-push
+returns-in_ok-push c =
+    let made = fault.plain c.args.place c.in-Some.code in
+    subst (λ o. Adds (refusal c.args.place o) c.args.found.now c.push.new.self) (sym c.in-Some.is)
+    (adds_one c.args.found.now c.push.new.self made (c.in_ok-push.ensures.ok ∙ ap (λ f. insert_fault f c.args.found.now) c.plain.ensures))

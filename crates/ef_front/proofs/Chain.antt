@@ -1,159 +1,190 @@
--- From the tokens of a source to what is made of it.
-use Rattle.std.proofs.Common.{◌≡◌, ◌≢◌, ◌≤◌, ◌⊎◌, ℕ, List, [], ◌∷◌, ◌++◌, Bool, true, false, length, refl, sym, ap, ◌∙◌, subst, arith, inl, inr, Result, Ok, Err, IfOk}
+-- From the forms of a source to what is made of it.
+use Rattle.std.proofs.Common.{◌≡◌, ◌≢◌, ◌⊎◌, inl, inr, ℕ, List, [], ◌∷◌, ◌++◌, Bool, true, false, refl, sym, ap, ◌∙◌, subst, append-nil, append_assoc, Result, Ok, Err, IfOk}
 use Rattle.std.specs.Prelude.{IsTrue, ◌↔◌}
 use Rattle.ef_base.specs.declared.fault.Fault.{Fault}
-use Rattle.ef_base.specs.declared.name.Name.{Name}
 use Rattle.ef_base.specs.Faults.{set_of}
 use Rattle.ef_base.specs.NamedFaults as fault
 use Rattle.ef_base.specs.Texts.{Texts, AllDiffer, Extends}
 use Rattle.ef_base.specs.Laws.{extends_same}
 use Rattle.ef_token.specs.declared.token.Token.{Token}
 use Rattle.ef_token.specs.declared.token.ScannedForm.{ScannedForm}
-use Rattle.ef_scan.specs.Scan.{Form, Scans, ScansTo, IsScanned, AreOf}
-use Rattle.ef_forms.specs.Tree.{Clauses, FunctionTree, FormTree, PlacedTree, ModuleTree, function}
-use Rattle.ef_forms.specs.Weight.{function_weight}
-use Rattle.ef_forms.specs.Built.{AreSome, Each, IsBuilt, functions_in, functions_of}
-use Rattle.ef_parse.specs.Grammar.{SpellsClauses, one_clause, and_clauses}
-use Rattle.ef_module.specs.Forms.{SpellsForm, SpellsForms, SpellsModule, IsNarrowForm, a_module_name, an_export, a_function}
-use Rattle.ef_module.specs.Read.{ReadsModule}
+use Rattle.ef_token.specs.TokenForm.{AllTokensOf, AreForms}
+use Rattle.ef_scan.specs.Scan.{Form, Scans, ScansTo, IsScanned}
+use Rattle.ef_forms.specs.Tree.{ModuleTree}
+use Rattle.ef_forms.specs.Built.{Each, IsBuilt, functions_in}
+use Rattle.ef_module.specs.Adds.{Adds}
+use Rattle.ef_module.specs.Modules.{ReadsModule, ModuleFaults, IsModule, AreModuleFaults}
 use Rattle.ef_lowmod.specs.Function.{IsLight, IsNarrowFunction, IsWhole, HasNoFault}
 use Rattle.ef_front.specs.declared.compiling.Compiled.{Compiled}
 use Rattle.ef_front.specs.declared.compiling.Compiled.TheVariants.{Module, Faulty}
-use Rattle.ef_front.specs.Source.{IsSource, HasFaults, blank, faulty_forms, of_module, not_built, faults_in, module_faults, forms_faults, form_faults}
-use Rattle.ef_front.specs.Input.{limit}
+use Rattle.ef_front.specs.Source.{IsRead, IsSource, HasFaults, of_reading, not_built, of_module, faults_in, tokens_in, module_faults}
+use Rattle.ef_front.specs.LeftOut.{kept, left_out_faults}
 use Rattle.ef_front.specs.Compiled.{IsCompiledText}
-use Rattle.ef_front.specs.Compiles.{AreTaken, SpellLight, IsFaulty, IsCompiledModule, IsCompiledForms}
-use Rattle.ef_front.proofs.Nested.{each_joined, printed, written}
-use Rattle.ef_front.proofs.Sizes.{AreLight, light}
+use Rattle.ef_front.specs.Compiles.{AreTaken, AreSplit, AreFaulty, reading, unbuilt, of_functions, IsFaulty, IsCompiledModule, IsCompiledForms, IsSet}
+use Rattle.ef_front.proofs.Added.{added}
+use Rattle.ef_front.proofs.LeftOut.{kept_ends}
+use Rattle.ef_front.proofs.Narrow.{forms_narrow}
+use Rattle.ef_front.proofs.Nested.{printed, written}
 use Rattle.ef_front.proofs.OneSource.{other_source}
-use Rattle.ef_front.proofs.Taken.{faults_taken, set_none}
+use Rattle.ef_front.proofs.RenamedLeftOut.{all_kept, kept_of_table}
+use Rattle.ef_front.proofs.Small.{all_small, each_of, none_first}
+use Rattle.ef_front.proofs.Taken.{all_tokens, faults_taken, scan_ready, set_none, tokens_taken}
+use Rattle.ef_front.proofs.Whole.{forms_whole}
 
--- ---- what a spelled module has
+-- ---- what a module has that is read
 
-form_narrow : (all : Texts) (f : FormTree) (ts : List Token) → SpellsForm all f ts → IsNarrowForm f → Each IsNarrowFunction (functions_of f)
-form_narrow all f ts (a_module_name m n p q r s t u at) narrow = tt
-form_narrow all f ts (an_export m fs p q r s t u v ts' at h) narrow = tt
-form_narrow all f ts (a_function n cs d p ts' h le) narrow = (narrow, tt)
+pub module_narrow : (all : Texts) (m : ModuleTree) (forms : List (List Token)) → ReadsModule all m forms → IsBuilt all m → Each IsNarrowFunction (functions_in m.forms)
+module_narrow all m forms reads built = forms_narrow all _ forms m.forms [] reads.reads built.bodies
 
-are_some : (all : Texts) (n : Name) (cs : Clauses) (d : ℕ) (ts : List Token) → SpellsClauses all n cs d ts → AreSome cs
-are_some all n cs d ts (one_clause n' p ps es d' ts' h) = tt
-are_some all n cs d ts (and_clauses n' p ps es cs' d' g q ts' us h hs) = tt
-
-form_whole : (all : Texts) (f : FormTree) (ts : List Token) → SpellsForm all f ts → Each IsWhole (functions_of f)
-form_whole all f ts (a_module_name m n p q r s t u at) = tt
-form_whole all f ts (an_export m fs p q r s t u v ts' at h) = tt
-form_whole all f ts (a_function n cs d p ts' h le) = (are_some all n cs d ts' h, tt)
-
-forms_narrow : (all : Texts) (fs : List PlacedTree) (tss : List (List Token)) → SpellsForms all fs tss → Each IsNarrowFunction (functions_in fs)
-forms_narrow all [] [] spelled = tt
-forms_narrow all [] (ts ∷ tss) spelled = absurd spelled
-forms_narrow all (f ∷ fs) [] spelled = absurd spelled
-forms_narrow all (f ∷ fs) (ts ∷ tss) spelled =
-    each_joined IsNarrowFunction (functions_of f.form) (functions_in fs) (form_narrow all f.form ts spelled.1 spelled.2) (forms_narrow all fs tss spelled.3)
-
-forms_whole : (all : Texts) (fs : List PlacedTree) (tss : List (List Token)) → SpellsForms all fs tss → Each IsWhole (functions_in fs)
-forms_whole all [] [] spelled = tt
-forms_whole all [] (ts ∷ tss) spelled = absurd spelled
-forms_whole all (f ∷ fs) [] spelled = absurd spelled
-forms_whole all (f ∷ fs) (ts ∷ tss) spelled =
-    each_joined IsWhole (functions_of f.form) (functions_in fs) (form_whole all f.form ts spelled.1) (forms_whole all fs tss spelled.3)
-
-pub module_narrow : (all : Texts) (m : ModuleTree) (forms : List (List Token)) → SpellsModule all m forms → Each IsNarrowFunction (functions_in m.forms)
-module_narrow all m forms spelled = forms_narrow all m.forms forms spelled.spelled
-
-pub module_whole : (all : Texts) (m : ModuleTree) (forms : List (List Token)) → SpellsModule all m forms → Each IsWhole (functions_in m.forms)
-module_whole all m forms spelled = forms_whole all m.forms forms spelled.spelled
-
-light_enough : (n : ℕ) (fs : List FunctionTree) → n ≤ limit → AreLight n fs → Each IsLight fs
-light_enough n [] small are = tt
-light_enough n (f ∷ fs) small are = let here : function_weight f ≤ n = are.0 in (omega arith, light_enough n fs small are.1)
-
-pub spell_light : (names : Texts) (source : List ℕ) (forms : List (List Token)) → length source ≤ limit → ScansTo names 0 source forms → SpellLight forms
-spell_light names source forms small scanned all m spelled =
-    light_enough (length source) (functions_in m.forms) small (light names all source forms m scanned spelled)
+pub module_whole : (all : Texts) (m : ModuleTree) (forms : List (List Token)) → ReadsModule all m forms → Each IsWhole (functions_in m.forms)
+module_whole all m forms reads = forms_whole all forms m.forms [] reads.reads
 
 -- ---- no faults
 
-none_first : {A : Type 0} (xs ys : List A) → xs ++ ys ≡ [] → (xs ≡ []) × (ys ≡ [])
-none_first [] ys is = (refl, is)
-none_first (x ∷ xs) ys is = cc
-
-no_form_faults : (all : Texts) (fs : List PlacedTree) → forms_faults all fs ≡ [] → Each (HasNoFault all) (functions_in fs)
-no_form_faults all [] none = tt
-no_form_faults all (f ∷ fs) none =
-    let parts = none_first (form_faults all f.form) (forms_faults all fs) none in
-    by_form f.form parts.0 (no_form_faults all fs parts.1)
-  where
-    by_form : (g : FormTree) → form_faults all g ≡ [] → Each (HasNoFault all) (functions_in fs) → Each (HasNoFault all) (functions_of g ++ functions_in fs)
-    by_form (function g) here rest = (here, rest)
-    by_form _ here rest = rest
+none_found : (all : Texts) (m : ModuleTree) (faults : List Fault) → faults ≡ set_of (module_faults all m) → faults ≡ [] → module_faults all m ≡ []
+none_found all m faults are none = set_none (module_faults all m) (sym are ∙ none)
 
 pub no_faults : (all : Texts) (m : ModuleTree) (faults : List Fault) → faults ≡ set_of (module_faults all m) → faults ≡ [] → Each (HasNoFault all) (functions_in m.forms)
-no_faults all m faults are none = no_form_faults all m.forms (set_none (module_faults all m) (sym are ∙ none))
+no_faults all m faults are none = each_of (functions_in m.forms) (all_small all m.forms (none_found all m faults are none)) (λ f small. small.no_fault)
+
+pub no_weights : (all : Texts) (m : ModuleTree) (faults : List Fault) → faults ≡ set_of (module_faults all m) → faults ≡ [] → Each IsLight (functions_in m.forms)
+no_weights all m faults are none = each_of (functions_in m.forms) (all_small all m.forms (none_found all m faults are none)) (λ f small. small.light)
 
 pub none_differ : (names : Texts) → names ≡ [] → AllDiffer names
 none_differ names none = subst AllDiffer (sym none) (λ i j text here there. cc)
 
+some_set : (faults found : List Fault) → faults ≢ [] → faults ≡ set_of found → found ≢ []
+some_set faults found some are none = some (are ∙ ap set_of none)
+
+-- ---- what is made of the forms that are kept
+
+pub module_compiled : (names : Texts) (m : ModuleTree) (forms : List (List Token)) (found : List Fault) (result : Compiled) → found ≡ [] → IsModule names m forms → IsCompiledModule names m result → IsCompiledForms names forms found result
+module_compiled names m forms found (Module l) none is made = (none, m, is.reads, made.0, made.1)
+module_compiled names m forms found (Faulty faults) none is made = (made.0, by_case made.1)
+  where
+    by_case : IsFaulty names m faults ⊎ ((IsBuilt names m → ⊥) × (faults ≡ fault.not_built ∷ [])) → AreFaulty names forms found faults
+    by_case (inl here) = of_functions m none is.reads here
+    by_case (inr left) = unbuilt m none is left.0 left.1
+
+-- the module has no faults, but others were found before
+pub before_compiled : (names : Texts) (m : ModuleTree) (forms : List (List Token)) (found : List Fault) → found ≢ [] → IsModule names m forms → IsCompiledForms names forms found (Faulty found)
+before_compiled names m forms found some is =
+    (some, reading [] (record { trees = m.forms; own = []; reads = is.reads.reads; are = sym is.reads.ordered }) (λ before are. are ∙ ap set_of (sym (append-nil before))))
+
+pub faulty_compiled : (names : Texts) (forms : List (List Token)) (found new faults : List Fault) → IsSet found → AreModuleFaults names forms faults → Adds faults found new → IsCompiledForms names forms found (Faulty new)
+faulty_compiled names forms found new faults set are sum =
+    let some : new ≢ [] = λ none. are.some (none_first set.0 faults (set_none (set.0 ++ faults) (sym (sum set.0 set.1) ∙ none))).1 in
+    (some, reading are.written are.found (λ before is. added before faults are.written new are.sorted (sum before is)))
+
 -- ---- the whole
 
-pub forms_compiled : (names : Texts) (m : ModuleTree) (forms : List (List Token)) (result : Compiled) → ReadsModule names m forms → IsCompiledModule names m result → IsCompiledForms names forms result
-forms_compiled names m forms (Module l) reads is = (m, reads.spelled names (extends_same names), is.0, is.1)
-forms_compiled names m forms (Faulty faults) reads is = (is.0, by_case is.1)
-  where
-    by_case : IsFaulty names m faults ⊎ ((IsBuilt names m → ⊥) × (faults ≡ fault.not_built ∷ []))
-        → ((m' : ModuleTree) × SpellsModule names m' forms × IsFaulty names m' faults) ⊎ (((m' : ModuleTree) → SpellsModule names m' forms → IsBuilt names m' → ⊥) × (faults ≡ fault.not_built ∷ []))
-    by_case (inl here) = inl (m, reads.spelled names (extends_same names), here)
-    by_case (inr none) = inr (λ m' spelled built. none.0 (subst (IsBuilt names) (reads.alone names (extends_same names) m' spelled) built), none.1)
+-- the forms of a text: those that are kept, and what is found before they are read
+pub record IsParted (names : Texts) (source : List ℕ) (found : List Fault) (forms : List (List Token)) : Type 0 where
+  pub all_forms : List Form
+  pub scanned : Scans names 0 source all_forms
+  pub keeps : forms ≡ kept names (tokens_in all_forms)
+  pub finds : found ≡ set_of (faults_in all_forms ++ left_out_faults names (tokens_in all_forms))
+
+pub parted : (names : Texts) (source : List ℕ) (scanned : List ScannedForm) (faults found : List Fault) (taken forms : List (List Token)) → IsScanned names 0 source scanned
+    → AreTaken scanned faults taken → AreSplit names taken forms faults found → IsParted names source found forms
+parted names source scanned faults found taken forms is one two =
+    let all_of : taken ≡ tokens_in is.0 = one.whole ∙ tokens_taken scanned is.0 is.1 in
+    record {
+      all_forms = is.0;
+      scanned = is.2;
+      keeps = two.keeps ∙ ap (kept names) all_of;
+      finds = two.others (faults_in is.0) (one.faulty ∙ ap set_of (faults_taken scanned is.0 is.1)) ∙ ap (λ l. set_of (faults_in is.0 ++ left_out_faults names l)) all_of;
+    }
+
+pub parted_ends : (names : Texts) (source : List ℕ) (found : List Fault) (forms : List (List Token)) → IsParted names source found forms → AreForms forms
+parted_ends names source found forms is = subst AreForms (sym is.keeps) (kept_ends names (tokens_in is.all_forms) (scan_ready names 0 source is.all_forms is.scanned).0)
+
+pub parted_named : (names : Texts) (source : List ℕ) (found : List Fault) (forms : List (List Token)) → IsParted names source found forms → AllTokensOf names forms
+parted_named names source found forms is = subst (AllTokensOf names) (sym is.keeps) (kept_of_table names (tokens_in is.all_forms) (scan_ready names 0 source is.all_forms is.scanned).1)
+
+-- where nothing was found before, all forms are of tokens and kept
+record IsClear (names : Texts) (source : List ℕ) (all_forms : List Form) (forms : List (List Token)) : Type 0 where
+  none_faulty : faults_in all_forms ≡ []
+  none_out : left_out_faults names (tokens_in all_forms) ≡ []
+  scans : ScansTo names 0 source (tokens_in all_forms)
+  same : forms ≡ tokens_in all_forms
+
+clear : (names : Texts) (source : List ℕ) (found : List Fault) (forms : List (List Token)) (is : IsParted names source found forms) → found ≡ [] → IsClear names source is.all_forms forms
+clear names source found forms is none =
+    let both = none_first (faults_in is.all_forms) (left_out_faults names (tokens_in is.all_forms)) (set_none _ (sym is.finds ∙ none)) in
+    record {
+      none_faulty = both.0;
+      none_out = both.1;
+      scans = subst (Scans names 0 source) (sym (all_tokens is.all_forms both.0)) is.scanned;
+      same = is.keeps ∙ all_kept names (tokens_in is.all_forms) both.1;
+    }
+
+source_of : (names : Texts) (source : List ℕ) (m : ModuleTree) (all_forms : List Form) (forms : List (List Token)) → AllDiffer names → IsClear names source all_forms forms → ReadsModule names m forms → IsBuilt names m → IsSource names source m
+source_of names source m all_forms forms differ is reads built = record {
+  differ = differ;
+  forms = tokens_in all_forms;
+  scanned = is.scans;
+  whole = is.none_out;
+  reads = subst (ReadsModule names m) is.same reads;
+  built = built;
+}
+
+read_of : (names : Texts) (source : List ℕ) (found own : List Fault) (forms : List (List Token)) → AllDiffer names → (is : IsParted names source found forms) → ModuleFaults names forms own
+    → IsRead names source (faults_in is.all_forms ++ (left_out_faults names (tokens_in is.all_forms) ++ own))
+read_of names source found own forms differ is are = record {
+  differ = differ;
+  forms = is.all_forms;
+  scanned = is.scanned;
+  own = own;
+  others = subst (λ l. ModuleFaults names l own) is.keeps are;
+  are = refl;
+}
+
+-- a module that is read has no faults of reading
+no_own : (names : Texts) (m : ModuleTree) (forms : List (List Token)) → ReadsModule names m forms → ModuleFaults names forms []
+no_own names m forms is = record { trees = m.forms; own = []; reads = is.reads; are = sym is.ordered }
+
+faults_of : (names : Texts) (source : List ℕ) (found faults : List Fault) (forms : List (List Token)) → AllDiffer names → IsParted names source found forms → faults ≢ [] → AreFaulty names forms found faults → HasFaults source faults
+faults_of names source found faults forms differ is some (reading own are sum) =
+    let front = faults_in is.all_forms in
+    let out = left_out_faults names (tokens_in is.all_forms) in
+    let same : faults ≡ set_of (front ++ (out ++ own)) = sum (front ++ out) is.finds ∙ ap set_of (append_assoc front out own) in
+    of_reading names (front ++ (out ++ own)) (read_of names source found own forms differ is are) (some_set faults (front ++ (out ++ own)) some same) same
+faults_of names source found faults forms differ is some (unbuilt m none single never are) =
+    let free = clear names source found forms is none in
+    let nothing : faults_in is.all_forms ++ (left_out_faults names (tokens_in is.all_forms) ++ []) ≡ [] = ap (λ l. l ++ (left_out_faults names (tokens_in is.all_forms) ++ [])) free.none_faulty ∙ ap (λ l. l ++ []) free.none_out in
+    not_built names (subst (IsRead names source) nothing (read_of names source found [] forms differ is (no_own names m forms single.reads)))
+    (λ all n origin.
+    let other = other_source names all source (tokens_in is.all_forms) n differ free.scans origin in
+    let same : other.module_tree ≡ m = single.alone other.module_tree (subst (ReadsModule names other.module_tree) (sym free.same) other.reads) in
+    never (subst (IsBuilt names) same other.is.built))
+    are
+faults_of names source found faults forms differ is some (of_functions m none reads are) =
+    let free = clear names source found forms is none in
+    of_module names m (source_of names source m is.all_forms forms differ free reads are.built) are.are
+
+pub text_compiled : (names : Texts) (source : List ℕ) (found : List Fault) (forms : List (List Token)) (result : Compiled) → AllDiffer names → IsParted names source found forms → IsCompiledForms names forms found result
+    → IsCompiledText source result
+text_compiled names source found forms (Module l) differ is made =
+    let free = clear names source found forms is made.0 in
+    let origin = source_of names source made.1 is.all_forms forms differ free made.2 made.3.built in
+    let none = set_none (module_faults names made.1) (sym made.3.are) in (
+      of_module names made.1 origin made.3.are,
+      record { all = names; module_tree = made.1; spelled = origin; later = l.names; extends = made.4.extends; differ = made.4.differ; utf8 = made.4.utf8; written = written names made.1 l none made.4 },
+      printed names made.1 l none made.4,
+      made.4.writable,
+    )
+text_compiled names source found forms (Faulty faults) differ is made = (faults_of names source found faults forms differ is made.0 made.1, made.0)
+
+-- ---- what is not built, at one module
 
 one_some : (faults : List Fault) (f : Fault) → faults ≡ f ∷ [] → faults ≢ []
 one_some faults f is none = let bad : [] ≡ f ∷ [] = sym none ∙ is in cc
-
-pub text_compiled : (names : Texts) (source : List ℕ) (forms : List (List Token)) (result : Compiled) → AllDiffer names → forms ≢ [] → ScansTo names 0 source forms
-    → IsCompiledForms names forms result → IsCompiledText source result
-text_compiled names source [] result differ some scanned is = absurd (some refl)
-text_compiled names source (form ∷ forms) (Module l) differ some scanned is =
-    let origin : IsSource names source is.0 = record { differ = differ; forms = form ∷ forms; scanned = scanned; spelled = is.1; built = is.2.built } in (
-      of_module names is.0 origin is.2.are,
-      record { all = names; module_tree = is.0; spelled = origin; later = l.names; extends = is.3.extends; differ = is.3.differ; utf8 = is.3.utf8; written = written names is.0 (form ∷ forms) l is.1 is.3 },
-      printed names is.0 (form ∷ forms) l is.1 is.3,
-      is.3.writable,
-    )
-text_compiled names source (form ∷ forms) (Faulty faults) differ some scanned is = (by_case is.1, is.0)
-  where
-    by_case : ((m : ModuleTree) × SpellsModule names m (form ∷ forms) × IsFaulty names m faults) ⊎ (((m : ModuleTree) → SpellsModule names m (form ∷ forms) → IsBuilt names m → ⊥) × (faults ≡ fault.not_built ∷ []))
-        → HasFaults source faults
-    by_case (inl here) = of_module names here.0 (record { differ = differ; forms = form ∷ forms; scanned = scanned; spelled = here.1; built = here.2.built }) here.2.are
-    by_case (inr none) = not_built names form forms scanned (λ all m origin.
-        let other = other_source names all source (form ∷ forms) m differ scanned origin in
-        none.0 other.module_tree other.spelled other.is.built) none.1
-
--- without forms
-pub blank_compiled : (names : Texts) (source : List ℕ) (scanned : List ScannedForm) (faults : List Fault) → IsScanned names 0 source scanned → scanned ≡ [] → faults ≡ fault.no_module ∷ [] → IsCompiledText source (Faulty faults)
-blank_compiled names source scanned faults is none are =
-    (blank names (subst (Scans names 0 source) (no_forms is.0 (subst (λ s. AreOf s is.0) none is.1)) is.2) are, one_some faults fault.no_module are)
-  where
-    no_forms : (forms : List Form) → AreOf [] forms → forms ≡ []
-    no_forms [] h = refl
-    no_forms (form ∷ forms) h = absurd h
-
--- with a faulty form
-pub faulty_compiled : (names : Texts) (source : List ℕ) (scanned : List ScannedForm) (faults : List Fault) (forms : List (List Token)) → IsScanned names 0 source scanned → AreTaken scanned faults forms → faults ≢ []
-    → IsCompiledText source (Faulty faults)
-faulty_compiled names source scanned faults forms is taken some =
-    let same : faults ≡ set_of (faults_in is.0) = taken.faulty ∙ ap set_of (faults_taken scanned is.0 is.1) in
-    (faulty_forms names is.0 is.2 (λ none. some (same ∙ ap set_of none)) same, some)
-
--- ---- what is not built, at one module
 
 pub not_that : (names : Texts) (m : ModuleTree) (faults : List Fault) (b : Bool) → ((all : Texts) → Extends names all → IsTrue b ↔ IsBuilt all m) → b ≡ false → faults ≡ fault.not_built ∷ []
     → IsCompiledModule names m (Faulty faults)
 not_that names m faults b tells is are =
     (one_some faults fault.not_built are, inr (λ built. let bad : false ≡ true = sym is ∙ (tells names (extends_same names)).1 built in cc, are))
-
-pub no_that : (names : Texts) (forms : List (List Token)) (faults : List Fault) → ((all : Texts) → Extends names all → (m : ModuleTree) → SpellsModule all m forms → ⊥) → faults ≡ fault.not_built ∷ []
-    → IsCompiledForms names forms (Faulty faults)
-no_that names forms faults none are =
-    (one_some faults fault.not_built are, inr (λ m spelled built. none names (extends_same names) m spelled, are))
 
 pub if_ok : {T E : Type 0} (r : Result T E) (P Q : T → Type 0) → ((y : T) → P y → Q y) → IfOk r P → IfOk r Q
 if_ok (Ok y) P Q f h = f y h

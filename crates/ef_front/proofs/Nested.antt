@@ -2,12 +2,9 @@
 use Rattle.std.specs.Prelude.{◌*◌, ◌≤◌, ◌≡◌, List, [], ◌∷◌, ◌++◌, map, refl}
 use Rattle.std.proofs.Common.{arith, ap, sym, subst}
 use Rattle.ef_base.specs.Texts.{Texts}
-use Rattle.ef_token.specs.declared.token.Token.{Token}
-use Rattle.ef_forms.specs.Built.{Each, functions_in, functions_of}
+use Rattle.ef_forms.specs.Built.{Each, functions_in}
 use Rattle.ef_forms.specs.Depth.{function_depth}
-use Rattle.ef_forms.specs.Tree.{FormTree, FunctionTree, PlacedTree, ModuleTree}
-use Rattle.ef_parse.proofs.Depths.{clauses_nest}
-use Rattle.ef_module.specs.Forms.{SpellsForm, SpellsForms, SpellsModule, a_module_name, an_export, a_function, most_nesting}
+use Rattle.ef_forms.specs.Tree.{FunctionTree, ModuleTree}
 use Rattle.ef_core.specs.Depth.{depth, functions_depth, module_depth, terms_depth}
 use Rattle.ef_core.specs.Plain.{plain_module}
 use Rattle.ef_core.specs.Reads.{Reads, greatest_depth}
@@ -20,29 +17,15 @@ use Rattle.ef_front.specs.declared.compiling.Lowered.{Lowered}
 use Rattle.ef_front.specs.Compiles.{IsLoweredTo}
 use Rattle.ef_front.specs.Compiled.{text_in}
 use Rattle.ef_front.specs.Printed.{IsPrinted}
+use Rattle.ef_front.specs.Source.{module_faults, most_depth}
 use Rattle.ef_front.specs.Written.{IsWritten}
+use Rattle.ef_front.proofs.Small.{all_small, each_of}
 
 abbrev pub IsNested : FunctionTree → Type 0
-IsNested f = function_depth f ≤ most_nesting
+IsNested f = function_depth f ≤ most_depth
 
-form_nested : (all : Texts) (f : FormTree) (ts : List Token) → SpellsForm all f ts → Each IsNested (functions_of f)
-form_nested all f ts (a_module_name m n p q r s t u at) = tt
-form_nested all f ts (an_export m fs p q r s t u v ts' at h) = tt
-form_nested all f ts (a_function n cs d p ts' h le) = let within = clauses_nest all n cs d ts' h in (omega arith, tt)
-
-pub each_joined : {A : Type 0} (P : A → Type 0) (xs ys : List A) → Each P xs → Each P ys → Each P (xs ++ ys)
-each_joined P [] ys first second = second
-each_joined P (x ∷ xs) ys first second = (first.0, each_joined P xs ys first.1 second)
-
-forms_nested : (all : Texts) (fs : List PlacedTree) (tss : List (List Token)) → SpellsForms all fs tss → Each IsNested (functions_in fs)
-forms_nested all [] [] spelled = tt
-forms_nested all [] (ts ∷ tss) spelled = absurd spelled
-forms_nested all (f ∷ fs) [] spelled = absurd spelled
-forms_nested all (f ∷ fs) (ts ∷ tss) spelled =
-    each_joined IsNested (functions_of f.form) (functions_in fs) (form_nested all f.form ts spelled.1) (forms_nested all fs tss spelled.3)
-
-pub module_nested : (all : Texts) (m : ModuleTree) (forms : List (List Token)) → SpellsModule all m forms → Each IsNested (functions_in m.forms)
-module_nested all m forms spelled = forms_nested all m.forms forms spelled.spelled
+module_nested : (names : Texts) (m : ModuleTree) → module_faults names m ≡ [] → Each IsNested (functions_in m.forms)
+module_nested names m none = each_of (functions_in m.forms) (all_small names m.forms none) (λ f small. small.shallow)
 
 -- ---- what is lowered
 
@@ -66,25 +49,25 @@ module_shallow all m t is shallow nested =
     let terms : terms_depth t.attributes ≡ 0 = ap terms_depth is.attributes in
     omega arith
 
--- what is lowered from forms that spell a module is read back
-read_back : (names : Texts) (m : ModuleTree) (forms : List (List Token)) (l : Lowered) → SpellsModule names m forms → IsLoweredTo names m l → Reads l.names (text_in l) (plain_module l.«module»)
-read_back names m forms l spelled is =
-    reads l.names (plain_module l.«module») is.utf8 is.readable (module_shallow l.names m (plain_module l.«module») is.outline is.shallow (module_nested names m forms spelled))
+-- what is lowered from a module without a fault is read back
+read_back : (names : Texts) (m : ModuleTree) (l : Lowered) → module_faults names m ≡ [] → IsLoweredTo names m l → Reads l.names (text_in l) (plain_module l.«module»)
+read_back names m l none is =
+    reads l.names (plain_module l.«module») is.utf8 is.readable (module_shallow l.names m (plain_module l.«module») is.outline is.shallow (module_nested names m none))
 
-pub written : (names : Texts) (m : ModuleTree) (forms : List (List Token)) (l : Lowered) → SpellsModule names m forms → IsLoweredTo names m l → IsWritten l.names m (text_in l)
-written names m forms l spelled is = record {
+pub written : (names : Texts) (m : ModuleTree) (l : Lowered) → module_faults names m ≡ [] → IsLoweredTo names m l → IsWritten l.names m (text_in l)
+written names m l none is = record {
   core = plain_module l.«module»;
-  read = read_back names m forms l spelled is;
+  read = read_back names m l none is;
   outline = is.outline;
   let_form = is.let_form;
   shallow = is.shallow;
   means = is.means;
 }
 
-pub printed : (names : Texts) (m : ModuleTree) (forms : List (List Token)) (l : Lowered) → SpellsModule names m forms → IsLoweredTo names m l → IsPrinted (text_in l)
-printed names m forms l spelled is = record {
+pub printed : (names : Texts) (m : ModuleTree) (l : Lowered) → module_faults names m ≡ [] → IsLoweredTo names m l → IsPrinted (text_in l)
+printed names m l none is = record {
   names = l.names;
   core = plain_module l.«module»;
-  read = read_back names m forms l spelled is;
+  read = read_back names m l none is;
   is = refl;
 }

@@ -2,15 +2,15 @@
 use Rattle.std.proofs.Common.{◌≡◌, ◌≤◌, ◌+◌, inl, inr, ℕ, List, [], ◌∷◌, ◌++◌, refl, sym, ap, ap₂, ◌∙◌, subst, subst₂, map}
 use Rattle.std.proofs.lemmas.List.{map-append}
 use Rattle.ef_base.specs.declared.name.Name.{Name}
-use Rattle.ef_base.specs.Texts.{Texts, AllDiffer, text}
-use Rattle.ef_base.specs.Laws.{same_name}
+use Rattle.ef_base.specs.Texts.{Texts, HasName}
 use Rattle.ef_forms.specs.declared.form.FunctionRef.{FunctionRef}
 use Rattle.ef_forms.specs.declared.tables.FunctionName.{FunctionName}
 use Rattle.ef_forms.specs.Tree.{Tree, Shape, Trees, Clauses, FunctionTree, FormTree, PlacedTree, ModuleTree, tree, int, atom, var, any, list, list_to, tuple, matching, call, remote, case_of, end, more, no_guard, or_guard, no_clauses, clause, module_name, export, dropped, function, count}
 use Rattle.ef_forms.specs.Built.{Each, IsAmong, IsDistinct, IsDefined, IsModuleInfo, IsCallOf, IsForeignModule, IsAtom, IsPattern, IsPatternShape, ArePatterns, IsBuiltTree, IsBuiltShape, AreBuilt, AreBuiltClauses, AreSome, IsBuiltFunction, IsBuiltForm, AreBuiltForms, export_count_of, export_count_in, IsBuilt, name_of, key_of, functions_of, functions_in, exports_of, exports_in, defined_in}
+use Rattle.ef_forms.specs.OfTable.{TreeOf, ShapeOf, TreesOf, ClausesOf, FunctionOf, ReferencesOf, FormOf, FormsOf}
 use Rattle.ef_forms.proofs.Renamed.{renamed_tree, renamed_shape, renamed_all, renamed_clauses, renamed_function, renamed_reference, renamed_key, renamed_form, renamed_placed, renamed_module}
-use Rattle.ef_front.proofs.Renaming.{Keeps, same_count}
-use Rattle.ef_front.proofs.OfNames.{TreeOf, ShapeOf, TreesOf, ClausesOf, FunctionOf, KeyOf, FormsOf, all_functions, all_defined, all_exports}
+use Rattle.ef_forms.proofs.RenamedNodes.{count_stays}
+use Rattle.ef_rows.proofs.Renamed.{Renames}
 
 -- ---- lists
 
@@ -19,18 +19,18 @@ among_map f x [] h = absurd h
 among_map f x (y ∷ ys) (inl e) = inl (ap f e)
 among_map f x (y ∷ ys) (inr h) = inr (among_map f x ys h)
 
--- of what has the property, the function takes no two to one
-abbrev pub Injective : {A B : Type 0} → (A → B) → (A → Type 0) → Type 0
-Injective {A} f P = (x y : A) → P x → P y → f x ≡ f y → x ≡ y
+among_back : {A B : Type 0} (f : A → B) (x : A) (xs : List A) → ((y z : A) → f y ≡ f z → y ≡ z) → IsAmong (f x) (map f xs) → IsAmong x xs
+among_back f x [] inj h = absurd h
+among_back f x (y ∷ ys) inj (inl e) = inl (inj y x e)
+among_back f x (y ∷ ys) inj (inr h) = inr (among_back f x ys inj h)
 
-among_back : {A B : Type 0} (f : A → B) (P : A → Type 0) (x : A) (xs : List A) → Injective f P → P x → Each P xs → IsAmong (f x) (map f xs) → IsAmong x xs
-among_back f P x [] inj p ps h = absurd h
-among_back f P x (y ∷ ys) inj p ps (inl e) = inl (inj y x ps.0 p e)
-among_back f P x (y ∷ ys) inj p ps (inr h) = inr (among_back f P x ys inj p ps.1 h)
+distinct_map : {A B : Type 0} (f : A → B) (xs : List A) → ((y z : A) → f y ≡ f z → y ≡ z) → IsDistinct xs → IsDistinct (map f xs)
+distinct_map f [] inj h = tt
+distinct_map f (x ∷ xs) inj h = (λ among. h.0 (among_back f x xs inj among), distinct_map f xs inj h.1)
 
-distinct_map : {A B : Type 0} (f : A → B) (P : A → Type 0) (xs : List A) → Injective f P → Each P xs → IsDistinct xs → IsDistinct (map f xs)
-distinct_map f P [] inj ps h = tt
-distinct_map f P (x ∷ xs) inj ps h = (λ among. h.0 (among_back f P x xs inj ps.0 ps.1 among), distinct_map f P xs inj ps.1 h.1)
+each_append : {A : Type 0} (P : A → Type 0) (xs ys : List A) → Each P xs → Each P ys → Each P (xs ++ ys)
+each_append P [] ys h k = k
+each_append P (x ∷ xs) ys h k = (h.0, each_append P xs ys h.1 k)
 
 -- ---- what a renamed module defines and exports
 
@@ -87,36 +87,59 @@ module _ (r : Name → Name) where
 
 -- ---- tables
 
-module _ (a b : Texts) (r : Name → Name) (differ : AllDiffer b) where
-  pub injective : Injective r (Keeps a b r)
-  injective n m k l e =
-      same_name b n m (text b n) differ (record { within = k.old; is = refl }) (record { within = l.old; is = sym l.same ∙ ap (text a) (sym e) ∙ k.same })
-
-  keys_injective : Injective (renamed_key r) (KeyOf (Keeps a b r))
-  keys_injective f g k l e =
+module _ (a b : Texts) (r : Name → Name) (renames : Renames a b r) where
+  keys_injective : (f g : FunctionName) → renamed_key r f ≡ renamed_key r g → f ≡ g
+  keys_injective f g e =
       ap₂ (λ (n : Name) (i : ℕ). let h : FunctionName = record { name = n; arity = i } in h)
-      (injective f.name g.name k l (ap (λ (h : FunctionName). h.name) e)) (ap (λ (h : FunctionName). h.arity) e)
+      (renames.injective f.name g.name (ap (λ (h : FunctionName). h.name) e)) (ap (λ (h : FunctionName). h.arity) e)
 
-  is_info : (f : FunctionName) → KeyOf (Keeps a b r) f → IsModuleInfo b f → IsModuleInfo a (renamed_key r f)
-  is_info f k h = (k.same ∙ h.0, h.1)
+  -- their names are of the first table
+  abbrev IsKey : FunctionName → Type 0
+  IsKey f = HasName a (r f.name)
 
-  was_info : (f : FunctionName) → KeyOf (Keeps a b r) f → IsModuleInfo a (renamed_key r f) → IsModuleInfo b f
-  was_info f k h = (sym k.same ∙ h.0, h.1)
+  abbrev IsOfTable : FunctionTree → Type 0
+  IsOfTable f = FunctionOf a (renamed_function r f)
 
-  is_defined : (defined : List FunctionName) (f : FunctionName) → KeyOf (Keeps a b r) f → IsDefined b defined f → IsDefined a (map (renamed_key r) defined) (renamed_key r f)
+  functions_of_form : (f : FormTree) → FormOf a (renamed_form r f) → Each IsOfTable (functions_of f)
+  functions_of_form (function g) h = (h, tt)
+  functions_of_form _ h = tt
+
+  all_functions : (fs : List PlacedTree) → FormsOf a (map (renamed_placed r) fs) → Each IsOfTable (functions_in fs)
+  all_functions [] h = tt
+  all_functions (f ∷ fs) h = each_append IsOfTable (functions_of f.form) (functions_in fs) (functions_of_form f.form h.0) (all_functions fs h.1)
+
+  names_of : (fs : List FunctionRef) → ReferencesOf a (map (renamed_reference r) fs) → Each IsKey (map name_of fs)
+  names_of [] h = tt
+  names_of (f ∷ fs) h = (h.0, names_of fs h.1)
+
+  exports_of_form : (f : FormTree) → FormOf a (renamed_form r f) → Each IsKey (exports_of f)
+  exports_of_form (export fs) h = names_of fs h
+  exports_of_form _ h = tt
+
+  all_exports : (fs : List PlacedTree) → FormsOf a (map (renamed_placed r) fs) → Each IsKey (exports_in fs)
+  all_exports [] h = tt
+  all_exports (f ∷ fs) h = each_append IsKey (exports_of f.form) (exports_in fs) (exports_of_form f.form h.0) (all_exports fs h.1)
+
+  is_info : (f : FunctionName) → IsKey f → IsModuleInfo b f → IsModuleInfo a (renamed_key r f)
+  is_info f k h = (renames.keeps f.name k ∙ h.0, h.1)
+
+  was_info : (f : FunctionName) → IsKey f → IsModuleInfo a (renamed_key r f) → IsModuleInfo b f
+  was_info f k h = (sym (renames.keeps f.name k) ∙ h.0, h.1)
+
+  is_defined : (defined : List FunctionName) (f : FunctionName) → IsKey f → IsDefined b defined f → IsDefined a (map (renamed_key r) defined) (renamed_key r f)
   is_defined defined f k (inl h) = inl (among_map (renamed_key r) f defined h)
   is_defined defined f k (inr h) = inr (is_info f k h)
 
-  each_defined : (defined fs : List FunctionName) → Each (KeyOf (Keeps a b r)) fs → Each (IsDefined b defined) fs → Each (IsDefined a (map (renamed_key r) defined)) (map (renamed_key r) fs)
+  each_defined : (defined fs : List FunctionName) → Each IsKey fs → Each (IsDefined b defined) fs → Each (IsDefined a (map (renamed_key r) defined)) (map (renamed_key r) fs)
   each_defined defined [] ks h = tt
   each_defined defined (f ∷ fs) ks h = (is_defined defined f ks.0 h.0, each_defined defined fs ks.1 h.1)
 
-  call_of : (defined : List FunctionName) (f : Tree) (n : ℕ) → TreeOf (Keeps a b r) f → IsCallOf b defined f n → IsCallOf a (map (renamed_key r) defined) (renamed_tree r f) n
+  call_of : (defined : List FunctionName) (f : Tree) (n : ℕ) → TreeOf a (renamed_tree r f) → IsCallOf b defined f n → IsCallOf a (map (renamed_key r) defined) (renamed_tree r f) n
   call_of defined (tree p (atom m)) n k h = is_defined defined (record { name = m; arity = n }) k h
   call_of defined (tree p _) n k h = absurd h
 
-  foreign : (f : Tree) → TreeOf (Keeps a b r) f → IsForeignModule b f → IsForeignModule a (renamed_tree r f)
-  foreign (tree p (atom m)) k h = λ e. h (sym k.same ∙ e)
+  foreign : (f : Tree) → TreeOf a (renamed_tree r f) → IsForeignModule b f → IsForeignModule a (renamed_tree r f)
+  foreign (tree p (atom m)) k h = λ e. h (sym (renames.keeps m k) ∙ e)
   foreign (tree p _) k h = absurd h
 
   is_atom : (f : Tree) → IsAtom f → IsAtom (renamed_tree r f)
@@ -147,10 +170,10 @@ module _ (a b : Texts) (r : Name → Name) (differ : AllDiffer b) where
 
   module _ (defined : List FunctionName) where
     mutual
-      built : (e : Tree) → TreeOf (Keeps a b r) e → IsBuiltTree b defined e → IsBuiltTree a (map (renamed_key r) defined) (renamed_tree r e)
+      built : (e : Tree) → TreeOf a (renamed_tree r e) → IsBuiltTree b defined e → IsBuiltTree a (map (renamed_key r) defined) (renamed_tree r e)
       built (tree p e) k h = built_shape e k h
 
-      built_shape : (e : Shape) → ShapeOf (Keeps a b r) e → IsBuiltShape b defined e → IsBuiltShape a (map (renamed_key r) defined) (renamed_shape r e)
+      built_shape : (e : Shape) → ShapeOf a (renamed_shape r e) → IsBuiltShape b defined e → IsBuiltShape a (map (renamed_key r) defined) (renamed_shape r e)
       built_shape (int i) k h = tt
       built_shape (atom n) k h = tt
       built_shape (var n) k h = tt
@@ -160,38 +183,37 @@ module _ (a b : Texts) (r : Name → Name) (differ : AllDiffer b) where
       built_shape (tuple es) k h = built_all es k h
       built_shape (matching p e) k h = (pattern p h.0, built e k.1 h.1)
       built_shape (call f es) k h =
-          (subst (IsCallOf a (map (renamed_key r) defined) (renamed_tree r f)) (sym (same_count r es)) (call_of defined f (count es) k.0 h.0), built_all es k.1 h.1)
+          (subst (IsCallOf a (map (renamed_key r) defined) (renamed_tree r f)) (sym (count_stays r es)) (call_of defined f (count es) k.0 h.0), built_all es k.1 h.1)
       built_shape (remote m f es) k h = (foreign m k.0 h.0, is_atom f h.1, built_all es k.2 h.2)
       built_shape (case_of e cs) k h = (built e k.0 h.0, some_renamed cs h.1, built_clauses 1 cs k.1 h.2)
       built_shape _ k h = absurd h
 
-      built_all : (es : Trees) → TreesOf (Keeps a b r) es → AreBuilt b defined es → AreBuilt a (map (renamed_key r) defined) (renamed_all r es)
+      built_all : (es : Trees) → TreesOf a (renamed_all r es) → AreBuilt b defined es → AreBuilt a (map (renamed_key r) defined) (renamed_all r es)
       built_all end k h = tt
       built_all (more e es) k h = (built e k.0 h.0, built_all es k.1 h.1)
 
-      built_clauses : (arity : ℕ) (cs : Clauses) → ClausesOf (Keeps a b r) cs → AreBuiltClauses b defined arity cs → AreBuiltClauses a (map (renamed_key r) defined) arity (renamed_clauses r cs)
+      built_clauses : (arity : ℕ) (cs : Clauses) → ClausesOf a (renamed_clauses r cs) → AreBuiltClauses b defined arity cs
+          → AreBuiltClauses a (map (renamed_key r) defined) arity (renamed_clauses r cs)
       built_clauses arity no_clauses k h = tt
       built_clauses arity (clause p ps (or_guard es gs) body cs) k h = absurd h
       built_clauses arity (clause p ps no_guard body cs) k h =
-          (same_count r ps ∙ h.0, patterns ps h.1, subst (λ n. 1 ≤ n) (sym (same_count r body)) h.2, built_all body k.2 h.3, built_clauses arity cs k.3 h.4)
+          (count_stays r ps ∙ h.0, patterns ps h.1, subst (λ n. 1 ≤ n) (sym (count_stays r body)) h.2, built_all body k.2 h.3, built_clauses arity cs k.3 h.4)
 
-    built_functions : (fs : List FunctionTree) → Each (FunctionOf (Keeps a b r)) fs → Each (IsBuiltFunction b defined) fs → Each (IsBuiltFunction a (map (renamed_key r) defined)) (map (renamed_function r) fs)
+    built_functions : (fs : List FunctionTree) → Each IsOfTable fs → Each (IsBuiltFunction b defined) fs → Each (IsBuiltFunction a (map (renamed_key r) defined)) (map (renamed_function r) fs)
     built_functions [] k h = tt
     built_functions (f ∷ fs) k h =
         ((λ info. h.0.0 (was_info (key_of f) k.0.0 info), built_clauses f.arity f.clauses k.0.1 h.0.1), built_functions fs k.1 h.1)
 
-  pub built_module : (m : ModuleTree) → FormsOf (Keeps a b r) m.forms → IsBuilt b m → IsBuilt a (renamed_module r m)
+  pub built_module : (m : ModuleTree) → FormsOf a (map (renamed_placed r) m.forms) → IsBuilt b m → IsBuilt a (renamed_module r m)
   built_module m k h =
       let defined = defined_renamed r m.forms in
       let exported = exports_renamed r m.forms in
-      let known = all_exports (Keeps a b r) m.forms k in
       record {
         forms = forms_renamed r m.forms h.forms;
         one_export = count_renamed r m.forms ∙ h.one_export;
-        functions = subst IsDistinct (sym defined)
-            (distinct_map (renamed_key r) (KeyOf (Keeps a b r)) (defined_in m.forms) keys_injective (all_defined (Keeps a b r) m.forms k) h.functions);
-        exports = subst IsDistinct (sym exported) (distinct_map (renamed_key r) (KeyOf (Keeps a b r)) (exports_in m.forms) keys_injective known h.exports);
-        exported = subst₂ (λ ds es. Each (IsDefined a ds) es) (sym defined) (sym exported) (each_defined (defined_in m.forms) (exports_in m.forms) known h.exported);
+        functions = subst IsDistinct (sym defined) (distinct_map (renamed_key r) (defined_in m.forms) keys_injective h.functions);
+        exports = subst IsDistinct (sym exported) (distinct_map (renamed_key r) (exports_in m.forms) keys_injective h.exports);
+        exported = subst₂ (λ ds es. Each (IsDefined a ds) es) (sym defined) (sym exported) (each_defined (defined_in m.forms) (exports_in m.forms) (all_exports m.forms k) h.exported);
         bodies = subst₂ (λ ds fs. Each (IsBuiltFunction a ds) fs) (sym defined) (sym (functions_renamed r m.forms))
-            (built_functions (defined_in m.forms) (functions_in m.forms) (all_functions (Keeps a b r) m.forms k) h.bodies);
+            (built_functions (defined_in m.forms) (functions_in m.forms) (all_functions m.forms k) h.bodies);
       }

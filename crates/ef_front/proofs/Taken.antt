@@ -1,5 +1,5 @@
 -- The faults and the tokens that are taken from scanned forms.
-use Rattle.std.proofs.Common.{◌≡◌, ◌≢◌, ℕ, List, [], ◌∷◌, ◌++◌, Bool, true, false, length, refl, sym, ap, ap₂, ◌∙◌, subst, append-nil, arith}
+use Rattle.std.proofs.Common.{◌≡◌, ◌≢◌, ℕ, List, [], ◌∷◌, ◌++◌, Bool, true, false, length, refl, sym, ap, ap₂, ◌∙◌, subst, append-nil, arith, map}
 use Rattle.std.specs.Prelude.{Vec, ◌==◌}
 use Rattle.std.proofs.lemmas.Bool.{eqb-true}
 use Rattle.std.specs.declared.alloc.Global.{Global}
@@ -21,12 +21,12 @@ use Rattle.ef_token.specs.declared.token.ScannedForm.{ScannedForm}
 use Rattle.ef_token.specs.declared.token.ScannedForm.TheVariants.{Tokens, Faulty as faulty_form}
 use Rattle.ef_token.specs.Lexeme as x
 use Rattle.ef_token.specs.Lexeme.{Lexeme, IsKind, AreTokens}
-use Rattle.ef_token.specs.Parts.{lexemes_of}
+use Rattle.ef_token.specs.Parts.{Part, lexemes_of}
 use Rattle.ef_token.specs.TokenForm.{KindOf, TokensOf, AllTokensOf, AreForms}
-use Rattle.ef_scan.specs.Scan.{Form, tokens, faulty, ScansTo, IsScanned, AreOf, AreTokenForms, joined}
-use Rattle.ef_scan.proofs.TokenForms.{token_forms}
-use Rattle.ef_module.specs.Read.{lists}
-use Rattle.ef_front.specs.Source.{faults_in}
+use Rattle.ef_scan.specs.Scan.{Form, tokens, faulty, Forms, no_more, ended, broken, unended, FormsOf, latin, unicode, Scans, not_utf8, is_cut, AreOf}
+use Rattle.ef_scan.proofs.TokenForms.{form_ends}
+use Rattle.ef_module.specs.Modules.{lists}
+use Rattle.ef_front.specs.Source.{faults_in, tokens_in}
 use Rattle.ef_front.specs.Compiles.{AreTaken, fault_of, tokens_of}
 
 -- ---- empty lists
@@ -67,25 +67,29 @@ tokens_named all file [] (t ∷ ts) h = absurd h
 tokens_named all file (l ∷ ls) [] h = absurd h
 tokens_named all file (l ∷ ls) (t ∷ ts) h = (kinds_named all l.lexeme t.kind h.1, tokens_named all file ls ts h.2)
 
-split_named : (all : Texts) (ts us : List Token) → TokensOf all (ts ++ us) → TokensOf all ts × TokensOf all us
-split_named all [] us h = (tt, h)
-split_named all (t ∷ ts) us h = let rest = split_named all ts us h.1 in ((h.0, rest.0), rest.1)
+-- the forms of tokens end with their only full stops, and their names are of the table
+abbrev AreReady : Texts → List Form → Type 0
+AreReady all fs = AreForms (tokens_in fs) × AllTokensOf all (tokens_in fs)
 
-forms_named : (all : Texts) (forms : List (List Token)) → TokensOf all (joined forms) → AllTokensOf all forms
-forms_named all [] h = tt
-forms_named all (f ∷ forms) h = let parts = split_named all f (joined forms) h in (parts.0, forms_named all forms parts.1)
+forms_ready : (all : Texts) (file : ℕ) (ps : List (Placed Part)) (fs : List Form) → Forms all file ps fs → AreReady all fs
+forms_ready all file _ _ (no_more ps h) = (tt, tt)
+forms_ready all file _ _ (ended ps more dot ts fs o d t f) =
+    let rest = forms_ready all file more fs f in
+    ((form_ends all file ps dot ts o d t, rest.0), (tokens_named all file (lexemes_of (ps ++ dot ∷ [])) ts t, rest.1))
+forms_ready all file _ _ (broken ps more p code fs o d f) = forms_ready all file more fs f
+forms_ready all file _ _ (unended ps first ls o l) = (tt, tt)
 
-pub scanned_named : (all : Texts) (source : List ℕ) (forms : List (List Token)) → ScansTo all 0 source forms → AllTokensOf all forms
-scanned_named all source forms scanned =
-    let is = (token_forms source).of_tokens all 0 forms scanned in
-    forms_named all forms (tokens_named all 0 (lexemes_of is.parts) (joined forms) is.tokens)
+parts_ready : (all : Texts) (file : ℕ) (ps : List (Placed Part)) (fs : List Form) → FormsOf all file ps fs → AreReady all fs
+parts_ready all file _ _ (latin ps more p n c) = (tt, tt)
+parts_ready all file _ _ (unicode ps fs n f) = forms_ready all file ps fs f
 
-pub scanned_ends : (all : Texts) (source : List ℕ) (forms : List (List Token)) → ScansTo all 0 source forms → AreForms forms
-scanned_ends all source forms scanned = ((token_forms source).of_tokens all 0 forms scanned).ends
+pub scan_ready : (all : Texts) (file : ℕ) (text : List ℕ) (fs : List Form) → Scans all file text fs → AreReady all fs
+scan_ready all file text _ (not_utf8 n h) = (tt, tt)
+scan_ready all file text _ (is_cut ps fs u c f) = parts_ready all file ps fs f
 
 -- ---- one more form
 
-lists_more : (vs : List (Vec Token Global)) (v : Vec Token Global) → lists (vs ++ v ∷ []) ≡ lists vs ++ v.items ∷ []
+pub lists_more : (vs : List (Vec Token Global)) (v : Vec Token Global) → lists (vs ++ v ∷ []) ≡ lists vs ++ v.items ∷ []
 lists_more [] v = refl
 lists_more (w ∷ vs) v = ap (λ (l : List (List Token)). w.items ∷ l) (lists_more vs v)
 
@@ -125,28 +129,18 @@ faults_taken (faulty_form f ∷ scanned) [] h = absurd h
 faults_taken (faulty_form f ∷ scanned) (tokens us ∷ forms) h = absurd h
 faults_taken (faulty_form f ∷ scanned) (faulty g ∷ forms) h = ap₂ (λ z l. z ∷ l) h.0 (faults_taken scanned forms h.1)
 
-whole_taken : (scanned : List ScannedForm) → flat_map fault_of scanned ≡ [] → AreTokenForms scanned (flat_map tokens_of scanned)
-whole_taken [] none = tt
-whole_taken (Tokens ts ∷ scanned) none = (refl, whole_taken scanned none)
-whole_taken (faulty_form fault ∷ scanned) none = let bad : fault ∷ flat_map fault_of scanned ≡ [] = none in cc
+pub tokens_taken : (scanned : List ScannedForm) (forms : List Form) → AreOf scanned forms → flat_map tokens_of scanned ≡ tokens_in forms
+tokens_taken [] [] h = refl
+tokens_taken [] (form ∷ forms) h = absurd h
+tokens_taken (Tokens ts ∷ scanned) [] h = absurd h
+tokens_taken (Tokens ts ∷ scanned) (tokens us ∷ forms) h = ap₂ (λ z l. z ∷ l) h.0 (tokens_taken scanned forms h.1)
+tokens_taken (Tokens ts ∷ scanned) (faulty g ∷ forms) h = absurd h
+tokens_taken (faulty_form f ∷ scanned) [] h = absurd h
+tokens_taken (faulty_form f ∷ scanned) (tokens us ∷ forms) h = absurd h
+tokens_taken (faulty_form f ∷ scanned) (faulty g ∷ forms) h = tokens_taken scanned forms h.1
 
-are_taken : (scanned : List ScannedForm) (faults : List Fault) (forms : List (List Token)) → AreTaken scanned faults forms → faults ≡ [] → AreTokenForms scanned forms
-are_taken scanned faults forms taken none =
-    subst (AreTokenForms scanned) (sym taken.whole) (whole_taken scanned (set_none (flat_map fault_of scanned) (sym taken.faulty ∙ none)))
-
-some_taken : (scanned : List ScannedForm) (forms : List (List Token)) → AreTokenForms scanned forms → scanned ≢ [] → forms ≢ []
-some_taken [] forms are some = absurd (some refl)
-some_taken (Tokens ts ∷ scanned) [] are some = absurd are
-some_taken (Tokens ts ∷ scanned) (form ∷ forms) are some = λ none. let bad : form ∷ forms ≡ [] = none in cc
-some_taken (faulty_form fault ∷ scanned) forms are some = absurd are
-
--- the source is of these forms of tokens, of which there is one
-pub record IsWhole (names : Texts) (source : List ℕ) (forms : List (List Token)) : Type 0 where
-  pub scans : ScansTo names 0 source forms
-  pub some : forms ≢ []
-
-pub whole : (names : Texts) (source : List ℕ) (scanned : List ScannedForm) (faults : List Fault) (forms : List (List Token)) → IsScanned names 0 source scanned → AreTaken scanned faults forms → faults ≡ [] → scanned ≢ []
-    → IsWhole names source forms
-whole names source scanned faults forms is taken none some =
-    let are = are_taken scanned faults forms taken none in
-    record { scans = (token_forms source).scanned names 0 scanned forms is are; some = some_taken scanned forms are some }
+-- without a faulty form all are of tokens
+pub all_tokens : (forms : List Form) → faults_in forms ≡ [] → map tokens (tokens_in forms) ≡ forms
+all_tokens [] none = refl
+all_tokens (tokens ts ∷ forms) none = ap (λ l. tokens ts ∷ l) (all_tokens forms none)
+all_tokens (faulty f ∷ forms) none = let bad : f ∷ faults_in forms ≡ [] = none in cc

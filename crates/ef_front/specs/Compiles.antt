@@ -9,17 +9,18 @@ use Rattle.ef_token.specs.declared.token.Token.{Token}
 use Rattle.ef_token.specs.declared.token.ScannedForm.{ScannedForm}
 use Rattle.ef_token.specs.declared.token.ScannedForm.TheVariants.{Tokens, Faulty as faulty_form}
 use Rattle.ef_forms.specs.Tree.{ModuleTree}
-use Rattle.ef_forms.specs.Built.{Each, IsBuilt, functions_in}
-use Rattle.ef_module.specs.Forms.{SpellsModule}
+use Rattle.ef_forms.specs.Built.{IsBuilt}
+use Rattle.ef_module.specs.Adds.{Adds}
+use Rattle.ef_module.specs.Modules.{ReadsModule, ModuleFaults, IsModule}
 use Rattle.ef_core.specs.Plain.{plain_module}
 use Rattle.ef_core.specs.Readable.{IsReadable}
-use Rattle.ef_lowmod.specs.Function.{IsLight}
 use Rattle.ef_lowmod.specs.Form.{HasLetForm, IsShallowFor}
 use Rattle.ef_lowmod.specs.Outline.{Outline}
 use Rattle.ef_meaning.specs.Runs.{KeepsMeaning}
 use Rattle.ef_front.specs.declared.compiling.Lowered.{Lowered}
 use Rattle.ef_front.specs.declared.compiling.Compiled.{Compiled}
 use Rattle.ef_front.specs.declared.compiling.Compiled.TheVariants.{Module, Faulty}
+use Rattle.ef_front.specs.LeftOut as l
 use Rattle.ef_front.specs.Source.{module_faults}
 use Rattle.ef_front.specs.Compiled.{IsWritable}
 
@@ -37,9 +38,14 @@ pub record AreTaken (scanned : List ScannedForm) (faults : List Fault) (forms : 
   pub faulty : faults ≡ set_of (flat_map fault_of scanned)
   pub whole : forms ≡ flat_map tokens_of scanned
 
--- the functions of each module that the forms spell are not too heavy for their variables
-abbrev pub SpellLight : List (List Token) → Type 0
-SpellLight forms = (all : Texts) (m : ModuleTree) → SpellsModule all m forms → Each IsLight (functions_in m.forms)
+-- the list is one of a set
+abbrev pub IsSet : List Fault → Type 0
+IsSet faults = (before : List Fault) × (faults ≡ set_of before)
+
+-- the forms that are kept, and the faults of the others, which are added
+pub record AreSplit (names : Texts) (forms kept : List (List Token)) (old new : List Fault) : Type 0 where
+  pub keeps : kept ≡ l.kept names forms
+  pub others : Adds (l.left_out_faults names forms) old new
 
 -- the Core module has the outline of the module, is in let form and shallow, can be written, is one that a text says, and
 -- keeps the meaning of the module
@@ -67,9 +73,14 @@ abbrev pub IsCompiledModule : Texts → ModuleTree → Compiled → Type 0
 IsCompiledModule names m (Module l) = IsFaulty names m [] × IsLoweredTo names m l
 IsCompiledModule names m (Faulty faults) = (faults ≢ []) × (IsFaulty names m faults ⊎ ((IsBuilt names m → ⊥) × IsNotBuilt faults))
 
-abbrev pub IsCompiledForms : Texts → List (List Token) → Compiled → Type 0
-IsCompiledForms names forms (Module l) = (m : ModuleTree) × SpellsModule names m forms × IsFaulty names m [] × IsLoweredTo names m l
-IsCompiledForms names forms (Faulty faults) =
-    (faults ≢ [])
-    × (((m : ModuleTree) × SpellsModule names m forms × IsFaulty names m faults)
-    ⊎ (((m : ModuleTree) → SpellsModule names m forms → IsBuilt names m → ⊥) × IsNotBuilt faults))
+-- the faults of forms that are kept, where others were found before: with those that are found where the forms are read;
+-- and else of the module that is read
+pub data AreFaulty (names : Texts) (forms : List (List Token)) (found faults : List Fault) : Type 0 where
+  reading : (own : List Fault) → ModuleFaults names forms own → Adds own found faults → AreFaulty names forms found faults
+  unbuilt : (m : ModuleTree) → found ≡ [] → IsModule names m forms → (IsBuilt names m → ⊥) → IsNotBuilt faults → AreFaulty names forms found faults
+  of_functions : (m : ModuleTree) → found ≡ [] → ReadsModule names m forms → IsFaulty names m faults → AreFaulty names forms found faults
+
+abbrev pub IsCompiledForms : Texts → List (List Token) → List Fault → Compiled → Type 0
+IsCompiledForms names forms found (Module l) =
+    (found ≡ []) × (m : ModuleTree) × ReadsModule names m forms × IsFaulty names m [] × IsLoweredTo names m l
+IsCompiledForms names forms found (Faulty faults) = (faults ≢ []) × AreFaulty names forms found faults

@@ -2,6 +2,8 @@ pub mod Words
 pub mod Written
 pub mod Printed
 pub mod Source
+pub mod LeftOut
+pub mod Sizes
 pub mod Input
 pub mod Lines
 pub mod Created

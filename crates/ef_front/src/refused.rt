@@ -26,15 +26,6 @@ pub fn too_large(alloc: Global) -> Result<FaultList, NoMemory>
     Ok(faults)
 }
 
-/// The one fault of a file of white space and comments alone.
-pub fn blank(alloc: Global) -> Result<FaultList, NoMemory>
-    ensures { IfOk result (λ faults. faults ≡ fault.no_module ∷ []) }
-{
-    let mut faults = FaultList::new(alloc);
-    faults.push(Fault::no_module(alloc))?;
-    Ok(faults)
-}
-
 /// The one fault of what is not built.
 pub fn not_built(alloc: Global) -> Result<FaultList, NoMemory>
     ensures { IfOk result (λ faults. faults ≡ fault.not_built ∷ []) }

@@ -1,19 +1,20 @@
 // From a source to its module in Core, or to its faults.
-ghost use Rattle.std.specs.Prelude.{◌≡◌, ◌≤◌, List, [], ◌∷◌, ◌++◌, IfOk, OnOk, length};
+ghost use Rattle.std.specs.Prelude.{◌≤◌, ◌∷◌, ◌++◌, [], List, IfOk, OnOk, length};
 ghost use Rattle.ef_token.specs.TokenForm.{AllTokensOf, AreForms};
 ghost use Rattle.ef_token.specs.declared.token.ScannedForm.{ScannedForm as TheForm};
-ghost use Rattle.ef_forms.specs.Built.{Each, functions_in};
+ghost use Rattle.ef_forms.specs.Built.{Each, IsBuilt, functions_in};
 ghost use Rattle.ef_forms.specs.OfTable.{ModuleOf};
 ghost use Rattle.ef_forms.specs.Plain.{plain_module};
-ghost use Rattle.ef_module.specs.Read.{lists};
-ghost use Rattle.ef_lowmod.specs.Function.{IsLight, IsNarrowFunction, IsWhole};
-ghost use Rattle.ef_front.specs.Compiles.{AreTaken, IsCompiledForms, IsCompiledModule, SpellLight};
+ghost use Rattle.ef_module.specs.Modules.{lists};
+ghost use Rattle.ef_lowmod.specs.Function.{IsNarrowFunction, IsWhole};
+ghost use Rattle.ef_front.specs.Compiles.{AreTaken, IsCompiledForms, IsCompiledModule, IsSet};
 ghost use Rattle.ef_front.specs.Input.{limit};
 ghost use Rattle.ef_front.specs.Compiled.{IsCompiledText};
 
 use crate::compiling::{Compiled, Lowered};
 use crate::faults::rule_faults;
-use crate::refused::{blank, not_built};
+use crate::left_out::split;
+use crate::refused::not_built;
 use ef_base::{FaultList, Names, NoMemory};
 use ef_forms::Module;
 use ef_lowmod::lower;
@@ -33,14 +34,10 @@ pub fn compile_text(alloc: Global, source: &[u8]) -> Result<Compiled, NoMemory>
 {
     let mut names = Names::new(alloc);
     let scanned = scan(alloc, &mut names, source, 0)?;
-    if scanned.is_empty() {
-        return Ok(Compiled::Faulty(blank(alloc)?));
-    }
     let taken = take_forms(alloc, scanned)?;
-    if !taken.faults.is_empty() {
-        return Ok(Compiled::Faulty(taken.faults));
-    }
-    compile_forms(alloc, names, taken.forms)
+    let mut found = taken.faults;
+    let kept = split(alloc, &names, taken.forms, &mut found)?;
+    compile_forms(alloc, names, kept, found)
 }
 
 /// The faults of the faulty forms, and the tokens of the others.
@@ -77,31 +74,41 @@ impl Taken {
     }
 }
 
+// What is made of the forms that are kept, where these faults were found before.
 fn compile_forms(
     alloc: Global,
     mut names: Names,
     forms: Vec<Vec<Token>>,
+    mut found: FaultList,
 ) -> Result<Compiled, NoMemory>
     requires ends { AreForms (lists forms.items) }
     requires named { AllTokensOf names (lists forms.items) }
-    requires light { SpellLight (lists forms.items) }
-    ensures { IfOk result (IsCompiledForms names (lists forms.items)) }
+    requires set { IsSet found }
+    ensures { IfOk result (IsCompiledForms names (lists forms.items) found) }
 {
     let read = module(alloc, &mut names, &forms);
     // The tokens go before the module is lowered, which takes their memory again.
     drop(forms);
     match read {
-        Ok(module) => compile_module(alloc, names, &module),
-        Err(FormRefusal::Faulty(_)) => Ok(Compiled::Faulty(not_built(alloc)?)),
+        Ok(module) => {
+            if !found.is_empty() {
+                drop(module);
+                return Ok(Compiled::Faulty(found));
+            }
+            compile_module(alloc, names, &module)
+        }
+        Err(FormRefusal::Faulty(faults)) => {
+            found.append(faults)?;
+            Ok(Compiled::Faulty(found))
+        }
         Err(FormRefusal::NoMemory) => Err(NoMemory),
     }
 }
 
 fn compile_module(alloc: Global, mut names: Names, module: &Module) -> Result<Compiled, NoMemory>
     requires of_table { ModuleOf names (plain_module «module».now) }
-    requires narrow { Each IsNarrowFunction (functions_in (plain_module «module».now).forms) }
+    requires narrow { IsBuilt names (plain_module «module».now) → Each IsNarrowFunction (functions_in (plain_module «module».now).forms) }
     requires whole { Each IsWhole (functions_in (plain_module «module».now).forms) }
-    requires light { Each IsLight (functions_in (plain_module «module».now).forms) }
     ensures { IfOk result (IsCompiledModule names (plain_module «module».now)) }
 {
     let tables = tables(alloc, &names, module)?;

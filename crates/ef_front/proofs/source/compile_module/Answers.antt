@@ -1,7 +1,7 @@
 use Rattle.std.proofs.Common.{sym, ◌∙◌}
 use Rattle.ef_base.specs.Laws.{extends_same}
 use Rattle.ef_forms.specs.Plain.{plain_module}
-use Rattle.ef_front.proofs.Chain.{no_faults, not_that}
+use Rattle.ef_front.proofs.Chain.{no_faults, no_weights, not_that}
 use Rattle.ef_front.proofs.Taken.{empty_list}
 use Rattle.ef_front.proofs.source.compile_module.Goals as goal
 
@@ -11,6 +11,14 @@ returns-then-not-branch c =
 
 pub lower-requires-clause-built : goal.lower-requires-clause-built
 lower-requires-clause-built c = λ all later. (c.in_ok-is_built.ensures all later).0 c.if-not-branch.false
+
+pub lower-requires-clause-narrow : goal.lower-requires-clause-narrow
+lower-requires-clause-narrow c = c.requires.narrow ((c.in_ok-is_built.ensures c.args.names (extends_same c.args.names)).0 c.if-not-branch.false)
+
+pub lower-requires-clause-light : goal.lower-requires-clause-light
+lower-requires-clause-light c =
+    let none = empty_list c.in_ok-faults.faults c.is_empty.result c.is_empty.ensures c.if-not-is_empty.false in
+    no_weights c.args.names (plain_module c.args.«module».now) c.in_ok-faults.faults (c.in_ok-faults.ensures c.args.names (extends_same c.args.names)) none
 
 pub lower-requires-clause-no_fault : goal.lower-requires-clause-no_fault
 lower-requires-clause-no_fault c =

@@ -1,4 +1,4 @@
-use Rattle.ef_module.specs.Read.{lists}
+use Rattle.ef_module.specs.Modules.{lists}
 use Rattle.ef_front.specs.Compiles.{AreTaken}
 use Rattle.ef_front.proofs.source.take_forms.Given as goal
 

@@ -11,8 +11,8 @@ use ef_module::module;
 use ef_scan::scan;
 use std::alloc::Global;
 
-// The most bytes of a file.
-const LIMIT: usize = 4_194_304;
+/// The most bytes of a file.
+pub const LIMIT: usize = 4_194_304;
 
 // The weight and the depth of a function.
 #[derive(Drop)]
@@ -61,20 +61,23 @@ impl Size {
     }
 }
 
-// The module that the source spells, if no form of it is faulty.
-fn read(alloc: Global, source: &[u8]) -> Result<Option<Module>, NoMemory>
+/// The module that the source spells and the table of its names, if no form of it is faulty.
+pub fn read(alloc: Global, source: &[u8]) -> Result<Option<(Names, Module)>, NoMemory>
     requires { length source.now ≤ limit }
 {
     let mut names = Names::new(alloc);
     let scanned = scan(alloc, &mut names, source, 0)?;
-    if scanned.is_empty() {
-        return Ok(None);
-    }
     let taken = take_forms(alloc, scanned)?;
     if !taken.faults.is_empty() {
         return Ok(None);
     }
-    Ok(module(alloc, &mut names, &taken.forms).ok())
+    match module(alloc, &mut names, &taken.forms) {
+        Ok(module) => Ok(Some((names, module))),
+        Err(refusal) => {
+            drop(refusal);
+            Ok(None)
+        }
+    }
 }
 
 /// Whether every function that the first file of the case defines is written within the bounds.
@@ -86,7 +89,7 @@ pub fn are_bounded(alloc: Global, case: &Case) -> bool {
     if source.len() > LIMIT {
         return false;
     }
-    let Ok(Some(module)) = read(alloc, source) else {
+    let Ok(Some((_names, module))) = read(alloc, source) else {
         return false;
     };
     match compile_text(alloc, source) {

@@ -28,6 +28,13 @@ pub struct Trouble {
     pub room: usize,
 }
 
+/// The text of a form, and the nodes of its tree.
+#[derive(Drop)]
+pub struct Tree {
+    pub form: Vec<u8>,
+    pub nodes: Vec<u8>,
+}
+
 /// A case, which begins in this line of its file.
 #[derive(Drop)]
 pub struct Case {
@@ -39,6 +46,8 @@ pub struct Case {
     pub status: Status,
     pub printed: Vec<u8>,
     pub created: Wanted,
+    /// A form that is read in place of a run.
+    pub tree: Option<Tree>,
     /// Whether the written functions are weighed against their source.
     pub is_bounded: bool,
 }

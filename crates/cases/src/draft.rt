@@ -1,7 +1,7 @@
 // The lines of one case.
 ghost use Rattle.std.specs.Prelude.{◌≡◌, ◌⊎◌, true, None, IfOk, IfErr, string_bytes};
 
-use crate::case::{Case, Text, Trouble, Wanted};
+use crate::case::{Case, Text, Tree, Trouble, Wanted};
 use crate::escaped::append_escaped;
 use crate::problem::Problem;
 use ef_io::Status;
@@ -27,6 +27,9 @@ enum Part {
     Begun(String),
     // The definitions of a short form, whose module is r.
     Core,
+    // A form, and the nodes of its tree.
+    Form,
+    Nodes,
 }
 
 /// A case of which some lines are read.
@@ -40,6 +43,8 @@ pub struct Draft {
     status: Option<Status>,
     // The arity of the function of a short form.
     arity: Option<String>,
+    // The form whose tree is wanted.
+    form: Vec<u8>,
 }
 
 impl Draft {
@@ -64,6 +69,7 @@ impl Draft {
             status: Status::Written,
             printed: Vec::new(alloc),
             created: Wanted::Any,
+            tree: None,
             is_bounded: false,
         };
         Ok(Draft {
@@ -73,6 +79,7 @@ impl Draft {
             has_words: false,
             status: None,
             arity: None,
+            form: Vec::new(alloc),
         })
     }
 
@@ -105,7 +112,7 @@ impl Draft {
         let mut draft = self;
         draft.end_part(alloc)?;
         let mut case = draft.case;
-        if !draft.has_words {
+        if !draft.has_words && case.tree.is_none() {
             let Some(file) = case.files.first() else {
                 return Err(Problem::Empty);
             };
@@ -147,6 +154,11 @@ impl Draft {
                 let path = String::from_str(alloc, "r.core")?;
                 self.case.created = Wanted::Whole(Text { path, bytes });
             }
+            Part::Form => self.form = bytes,
+            Part::Nodes => {
+                let form = mem::replace(&mut self.form, Vec::new(alloc));
+                self.case.tree = Some(Tree { form, nodes: bytes });
+            }
         }
         Ok(())
     }
@@ -158,6 +170,8 @@ impl Draft {
             "bounded" => self.case.is_bounded = true,
             "word" => self.add_word(alloc, "")?,
             "core" => self.begin_core(alloc)?,
+            "form" => self.part = Part::Form,
+            "tree" => self.part = Part::Nodes,
             _ => self.begin_short(alloc, word)?,
         }
         Ok(())

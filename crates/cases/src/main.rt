@@ -12,8 +12,9 @@ mod outcome;
 mod parse;
 mod problem;
 mod report;
+mod tree;
 
-use case::Case;
+use case::{Case, Tree};
 use parse::parse;
 use std::env::Env;
 use std::io::Write;
@@ -98,6 +99,9 @@ fn run_case<R: Files + Print + AllocGlobal>(
 ) -> io::Result<()>
     ensures { OnOk result (OneRises count.old.passed count.old.failed count.new.passed count.new.failed) }
 {
+    if let Some(tree) = &case.tree {
+        return run_tree(rt, path, case, tree, count);
+    }
     let alloc = rt.alloc();
     let Ok(outcome) = outcome::run(alloc, case) else {
         return Err(io::ErrorKind::OutOfMemory.into());
@@ -117,4 +121,28 @@ fn run_case<R: Files + Print + AllocGlobal>(
     }
     count.add(true);
     Ok(())
+}
+
+fn run_tree<R: Print + AllocGlobal>(
+    rt: &R,
+    path: &str,
+    case: &Case,
+    tree: &Tree,
+    count: &mut Count,
+) -> io::Result<()>
+    ensures { OnOk result (OneRises count.old.passed count.old.failed count.new.passed count.new.failed) }
+{
+    let alloc = rt.alloc();
+    let Ok(nodes) = tree::trees(alloc, &tree.form) else {
+        return Err(io::ErrorKind::OutOfMemory.into());
+    };
+    let passes = nodes == tree.nodes;
+    count.add(passes);
+    if passes {
+        return Ok(());
+    }
+    let line = case.line;
+    let name = case.name.as_str();
+    println!(rt; "{path}:{line}: {name}\nwanted other nodes than these:")?;
+    io::writer(rt).write_all(&nodes)
 }

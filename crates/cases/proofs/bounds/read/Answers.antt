@@ -1,23 +1,30 @@
-use Rattle.std.proofs.Common.{◌∙◌, ap, sym, subst}
-use Rattle.std.specs.Prelude.{◌==◌}
+use Rattle.std.proofs.Common.{ℕ, List, sym, subst, ◌∙◌}
+use Rattle.ef_base.specs.declared.fault.Fault.{Fault}
 use Rattle.ef_base.specs.Laws.{extends_same}
-use Rattle.ef_module.specs.Read.{lists}
+use Rattle.ef_base.specs.Texts.{Texts}
+use Rattle.ef_token.specs.declared.token.Token.{Token}
+use Rattle.ef_token.specs.declared.token.ScannedForm.{ScannedForm}
 use Rattle.ef_token.specs.TokenForm.{AllTokensOf, AreForms}
-use Rattle.ef_front.proofs.Taken.{empty_list, scanned_ends, scanned_named, some_list, whole}
+use Rattle.ef_scan.specs.Scan.{IsScanned}
+use Rattle.ef_module.specs.Modules.{lists}
+use Rattle.ef_front.specs.Compiles.{AreTaken}
+use Rattle.ef_front.proofs.Taken.{scan_ready, tokens_taken}
 use Rattle.cases.proofs.bounds.read.Goals as goal
+
+-- the tokens of the forms end with their only full stops, and their names are of the table
+ready : (all : Texts) (source : List ℕ) (scanned : List ScannedForm) (faults : List Fault) (forms : List (List Token)) → IsScanned all 0 source scanned → AreTaken scanned faults forms
+    → AreForms forms × AllTokensOf all forms
+ready all source scanned faults forms one two =
+    subst (λ (l : List (List Token)). AreForms l × AllTokensOf all l) (sym (two.whole ∙ tokens_taken scanned one.0 one.1)) (scan_ready all 0 source one.0 one.2)
 
 pub module-requires-clause-ends : goal.module-requires-clause-ends
 module-requires-clause-ends c =
-    let is = whole c.scan.new.names c.args.source.now c.in_ok-scanned.scanned.items c.in_ok-taken.taken.faults (lists c.in_ok-taken.taken.forms.items)
-    (c.in_ok-scanned.ensures.forms c.scan.new.names (extends_same c.scan.new.names)) c.in_ok-taken.ensures
-    (empty_list c.in_ok-taken.taken.faults c.is_empty-2.result c.is_empty-2.ensures c.if-not-is_empty.false)
-    (some_list c.in_ok-scanned.scanned.items c.is_empty.result (c.is_empty.ensures ∙ ap (λ n. n == 0) c.in_ok-scanned.scanned.ok.0) c.if-is_empty.false) in
-    subst (λ l. AreForms (lists l)) (sym c.deref.ensures.value) (scanned_ends c.scan.new.names c.args.source.now (lists c.in_ok-taken.taken.forms.items) is.scans)
+    subst (λ l. AreForms (lists l)) (sym c.deref.ensures.value)
+    (ready c.scan.new.names c.args.source.now c.in_ok-scanned.scanned.items c.in_ok-taken.taken.faults (lists c.in_ok-taken.taken.forms.items)
+    (c.in_ok-scanned.ensures.forms c.scan.new.names (extends_same c.scan.new.names)) c.in_ok-taken.ensures).0
 
 pub module-requires-clause-named : goal.module-requires-clause-named
 module-requires-clause-named c =
-    let is = whole c.scan.new.names c.args.source.now c.in_ok-scanned.scanned.items c.in_ok-taken.taken.faults (lists c.in_ok-taken.taken.forms.items)
-    (c.in_ok-scanned.ensures.forms c.scan.new.names (extends_same c.scan.new.names)) c.in_ok-taken.ensures
-    (empty_list c.in_ok-taken.taken.faults c.is_empty-2.result c.is_empty-2.ensures c.if-not-is_empty.false)
-    (some_list c.in_ok-scanned.scanned.items c.is_empty.result (c.is_empty.ensures ∙ ap (λ n. n == 0) c.in_ok-scanned.scanned.ok.0) c.if-is_empty.false) in
-    subst (λ l. AllTokensOf c.scan.new.names (lists l)) (sym c.deref.ensures.value) (scanned_named c.scan.new.names c.args.source.now (lists c.in_ok-taken.taken.forms.items) is.scans)
+    subst (λ l. AllTokensOf c.scan.new.names (lists l)) (sym c.deref.ensures.value)
+    (ready c.scan.new.names c.args.source.now c.in_ok-scanned.scanned.items c.in_ok-taken.taken.faults (lists c.in_ok-taken.taken.forms.items)
+    (c.in_ok-scanned.ensures.forms c.scan.new.names (extends_same c.scan.new.names)) c.in_ok-taken.ensures).1

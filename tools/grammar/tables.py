@@ -17,12 +17,15 @@ ROWS is a text of three parts, as
              | '(' sum ')'
     starts
     sum
+    opened
+    value
 
 A symbol is a class of tokens, a set of classes, a rule or an action `<name>`, and `-` is the empty right side. `Nothing`
-is the class of the end, and `starts` has the rules that whole inputs begin with. A line `# ==== NAME` says that the rules
+is the class of the end, `starts` has the rules that whole inputs begin with, and `opened` those whose rows are opened
+ahead, until none of them begins with a rule. A line `# ==== NAME` says that the rules
 behind it have their rows in src/NAME_rows.rt. Says where two rows are chosen at one class.
-With the NAME of a crate and its FOLDER, writes src/classes.rt, src/rows.rt, a file of rows for each line `# ====`,
-specs/Classes.antt, specs/Rules.antt, specs/Tables.antt and specs/Sound.antt there. What is written is proved, so nothing
+With the NAME of a crate and its FOLDER, writes src/classes.rt, src/rows.rt, a file of rows for each line `# ====`, those
+that are opened in src/opened_rows.rt and their shared parts in src/opened_parts.rt, specs/Classes.antt, specs/Rules.antt, specs/Tables.antt and specs/Sound.antt there. What is written is proved, so nothing
 rests on this script.
 """
 import os
@@ -52,7 +55,7 @@ class Grammar:
     the rules of each file of rows."""
 
     def __init__(self, text):
-        self.classes, self.sets, self.heads, self.parts, self.starts, words = [], {}, {}, {}, [], {}
+        self.classes, self.sets, self.heads, self.parts, self.starts, self.opened, words = [], {}, {}, {}, [], [], {}
         part = rule = file = None
         comment = ""
         for line in (line.strip() for line in text.splitlines()):
@@ -62,7 +65,7 @@ class Grammar:
                 file = self.parts.setdefault(line[6:].strip(), [])
             if not line or line[0] == "#":
                 continue
-            if line in ("classes", "rows", "starts"):
+            if line in ("classes", "rows", "starts", "opened"):
                 part = line
             elif part == "classes" and line.startswith("set "):
                 self.sets[line.split()[1]] = line.split()[3:]
@@ -70,6 +73,8 @@ class Grammar:
                 self.classes += line.split()
             elif part == "starts":
                 self.starts += line.split()
+            elif part == "opened":
+                self.opened += line.split()
             else:
                 name, right = re.match(r"(?:(\w+)\s*:|\|)\s+(.*)$", line).groups()
                 if name:
@@ -155,6 +160,27 @@ class Table:
             steps += self.height[word] if kind == "rule" else 1
         return steps
 
+    def open(self, name):
+        """The rows of the rule with their first rules opened: for each the classes, the row of a rule that it begins with (that
+        rule and the row's index) and the symbols behind it. Beside them how many levels were opened."""
+        rows, levels = [(at, (name, k), []) for k, at in enumerate(self.at[name])], 0
+        while any(self.first_rule(row) for row in rows):
+            rows, levels = [new for row in rows for new in self.open_row(row)], levels + 1
+        return rows, levels
+
+    def first_rule(self, row):
+        _, (name, k), _ = row
+        right = self.grammar.rows[name][k]
+        return right[0][1] if right and right[0][0] == "rule" else None
+
+    def open_row(self, row):
+        at, (name, k), then = row
+        first = self.first_rule(row)
+        if not first:
+            return [row]
+        rest = self.grammar.rows[name][k][1:] + then
+        return [(at & some, (first, j), rest) for j, some in enumerate(self.at[first])]
+
     def raise_heights(self):
         changed = False
         for name, rights in self.grammar.rows.items():
@@ -180,33 +206,68 @@ def rows_code(g, crate):
     out = "// The rows of each rule of the grammar.\n"
     out += "ghost use Rattle.std.specs.Prelude.{◌≡◌, map};\n"
     out += "ghost use Rattle.ef_grammar.specs.Shown.{row};\n"
+    out += "ghost use Rattle.ef_grammar.specs.Table.{opened_rows};\n"
     out += f"ghost use Rattle.{crate}.specs.Tables as tables;\n\n"
-    out += "".join(f"use crate::{part}_rows as {part};\n" for part in g.parts) + "use ef_grammar::Row;\n\n"
+    out += "".join(f"use crate::{part}_rows as {part};\n" for part in [*g.parts, *["opened"] * bool(g.opened)])
+    out += "use ef_grammar::Row;\n\n"
     out += enum("A rule of the grammar.", "RuleName", g.rows)
     out += enum("What builds from what has been read.", "Action", g.actions)
-    out += "/// The right sides of the rule.\npub fn rows(rule: RuleName) -> &'static [Row<RuleName, Action>]\n"
-    out += "    ensures { map row result.now ≡ tables.rows rule }\n{\n    match rule {\n"
+    out += "/// The right sides of the rule, those of some rules opened ahead.\n"
+    out += "pub fn rows(rule: RuleName) -> &'static [Row<RuleName, Action>]\n"
+    out += "    ensures { map row result.now ≡ opened_rows tables.table rule }\n{\n    match rule {\n"
     for part, names in g.parts.items():
-        out += "".join(f"        RuleName::{camel(name)} => {part}::{upper(name)},\n" for name in names)
+        for name in names:
+            out += f"        RuleName::{camel(name)} => {'opened' if name in g.opened else part}::{upper(name)},\n"
     return out + "    }\n}\n"
 
 
-def part_code(g, table, part):
-    def symbol(kind, word):
-        if kind == "token":
-            return f"Token(classes::{upper(word)})" if word in g.sets else f"Token(1 << classes::{upper(word)})"
-        return f"Rule(RuleName::{camel(word)})" if kind == "rule" else f"Act(Action::{camel(word)})"
+def symbol_code(g, kind, word):
+    if kind == "token":
+        return f"Token(classes::{upper(word)})" if word in g.sets else f"Token(1 << classes::{upper(word)})"
+    return f"Rule(RuleName::{camel(word)})" if kind == "rule" else f"Act(Action::{camel(word)})"
 
-    out = f"// The rows of the grammar: {part}.\n\n"
-    out += "use crate::classes;\nuse crate::rows::{Action, RuleName};\n"
-    out += "use ef_grammar::Row;\nuse ef_grammar::Symbol::{Act, Rule, Token};\n\n"
-    for name in g.parts[part]:
+
+def symbols_code(g, symbols):
+    return ", ".join(symbol_code(g, *one) for one in symbols)
+
+
+def uses_code(symbols):
+    out = "use crate::classes;\nuse crate::rows::{Action, RuleName};\n"
+    return out + ("use ef_grammar::Symbol;\n" if symbols else "use ef_grammar::Row;\n") + "use ef_grammar::Symbol::{Act, Rule, Token};\n\n"
+
+
+def part_code(g, table, part):
+    out = f"// The rows of the grammar: {part}.\n\n" + uses_code(False)
+    for name in (name for name in g.parts[part] if name not in g.opened):
         out += f"pub const {upper(name)}: &[Row<RuleName, Action>] = &[\n"
         for at, right in zip(table.at[name], g.rows[name]):
-            symbols = ", ".join(symbol(*one) for one in right)
-            out += f"    Row {{\n        at: 0x{at:x},\n        right: &[{symbols}],\n    }},\n"
+            out += f"    Row {{\n        at: 0x{at:x},\n        right: &[{symbols_code(g, right)}],\n        then: &[],\n    }},\n"
         out += "];\n\n"
     return out.rstrip() + "\n"
+
+
+def opened_code(g, table):
+    """The text of src/opened_parts.rt, and that of src/opened_rows.rt."""
+    parts = "// Parts that rows share which are opened ahead.\n\n" + uses_code(True)
+    rows = "// Rows that are opened ahead: what begins with a rule begins with that rule's row.\n\n"
+    rows += "use crate::opened_parts as part;\nuse crate::rows::{Action, RuleName};\nuse ef_grammar::Row;\n\n"
+    seen = {}
+
+    def shared(name, symbols):
+        nonlocal parts
+        if name not in seen:
+            parts += f"pub const {name}: &[Symbol<RuleName, Action>] = &[{symbols_code(g, symbols)}];\n\n"
+        assert seen.setdefault(name, symbols) == symbols
+        return f"part::{name}"
+
+    for name in g.opened:
+        rows += f"pub const {upper(name)}: &[Row<RuleName, Action>] = &[\n"
+        for at, (rule, k), then in table.open(name)[0]:
+            right = shared(f"{upper(rule)}_{k + 1}", g.rows[rule][k])
+            behind = shared(f"BEHIND_{upper(rule)}_IN_{upper(name)}", then) if then else "&[]"
+            rows += f"    Row {{\n        at: 0x{at:x},\n        right: {right},\n        then: {behind},\n    }},\n"
+        rows += "];\n\n"
+    return parts.rstrip() + "\n", rows.rstrip() + "\n"
 
 
 def classes_spec(g):
@@ -251,8 +312,8 @@ def rules_spec(g, crate):
 
 
 def tables_spec(g, table, crate):
-    out = "-- At which classes each right side is chosen, what may stand behind each rule, and a bound of the steps before\n"
-    out += "-- its first token. These numbers are checked, and tell a reader nothing of the language.\n"
+    out = "-- At which classes each right side is chosen, what may stand behind each rule, a bound of the steps before its first\n"
+    out += "-- token, and how many levels are opened ahead. These numbers are checked, and tell a reader nothing of the language.\n"
     out += "use Rattle.std.specs.Prelude.{ℕ, List, [], ◌∷◌}\nuse Rattle.ef_grammar.specs.Table.{Row, Table, rowed}\n"
     out += uses(crate) + f"use Rattle.{crate}.specs.Rules.{{rules}}\n\nabbrev pub at : RuleName → List ℕ\n"
     for name, sets in table.at.items():
@@ -261,9 +322,11 @@ def tables_spec(g, table, crate):
     out += "".join(f"behind r.{camel(name)} = 0x{some:x}\n" for name, some in table.behind.items())
     out += "\nabbrev pub height : RuleName → ℕ\n"
     out += "".join(f"height r.{camel(name)} = {steps}\n" for name, steps in table.height.items())
+    out += "\nabbrev pub ahead : RuleName → ℕ\n"
+    out += "".join(f"ahead r.{camel(name)} = {table.open(name)[1]}\n" for name in g.opened) + "ahead n = 0\n"
     out += "\nabbrev pub rows : RuleName → List (Row RuleName Action)\nrows n = rowed (at n) (rules n)\n"
     out += "\nabbrev pub table : Table RuleName Action\n"
-    return out + "table = record { rows = rows; behind = behind; height = height }\n"
+    return out + "table = record { rows = rows; behind = behind; height = height; ahead = ahead }\n"
 
 
 def sound_spec(g, crate):
@@ -297,6 +360,9 @@ def main(path, crate=None, folder=None):
     }
     for part in g.parts:
         files[f"src/{part}_rows.rt"] = lambda part=part: part_code(g, table, part)
+    if g.opened:
+        files["src/opened_parts.rt"] = lambda: opened_code(g, table)[0]
+        files["src/opened_rows.rt"] = lambda: opened_code(g, table)[1]
     for name, text in files.items() if folder else ():
         os.makedirs(os.path.dirname(os.path.join(folder, name)), exist_ok=True)
         with open(os.path.join(folder, name), "w", encoding="utf-8") as out:

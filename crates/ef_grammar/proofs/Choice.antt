@@ -70,23 +70,20 @@ module _ {R A : Type 0} (t : Table R A) where
   skips true β o h = absurd (h refl)
   skips false β o h = refl
 
-  chosen_is : (n : R) (r : Row R A) (i : ℕ) (rs : List (Row R A)) → are_fit t n rs ≡ true → Among r rs → has r.at i ≡ true → chosen rs i ≡ Some r.right
+  pub chosen_is : (n : R) (r : Row R A) (i : ℕ) (rs : List (Row R A)) → are_fit t n rs ≡ true → Among r rs → has r.at i ≡ true → chosen rs i ≡ Some r.right
   chosen_is n r i rs e (first xs) h = ap (λ z. cond z (Some r.right) (chosen xs i)) h
   chosen_is n r i rs e (later y xs m) h =
       skips (has y.at i) y.right (chosen xs i) (λ k. apart_is y.at (at_any xs) i (and_left _ _ (and_left _ _ e)) k (at_of r i xs m h))
       ∙ chosen_is n r i xs (and_right _ _ e) m h
 
-  taken : (b : Bool) (β γ : List (Symbol R A)) (r : Row R A) (rs : List (Row R A)) (o : Option (List (Symbol R A))) → r.right ≡ β → cond b (Some β) o ≡ Some γ
-      → (o ≡ Some γ → (q : Row R A) × Among q rs × (q.right ≡ γ)) → (q : Row R A) × Among q (r ∷ rs) × (q.right ≡ γ)
-  taken true β γ r rs o is e h = (r, first rs, is ∙ same)
-    where
-      same : β ≡ γ
-      same = cc
-  taken false β γ r rs o is e h = let q = h e in (q.0, later r rs q.1, q.2)
-
-  chosen_of : (rs : List (Row R A)) (i : ℕ) (β : List (Symbol R A)) → chosen rs i ≡ Some β → (r : Row R A) × Among r rs × (r.right ≡ β)
+  pub chosen_of : (rs : List (Row R A)) (i : ℕ) (β : List (Symbol R A)) → chosen rs i ≡ Some β → (r : Row R A) × Among r rs × (r.right ≡ β) × (has r.at i ≡ true)
   chosen_of [] i β e = absurd (cc)
-  chosen_of (r ∷ rs) i β e = taken (has r.at i) r.right β r rs (chosen rs i) refl e (chosen_of rs i β)
+  chosen_of (r ∷ rs) i β e = taken (has r.at i) refl (chosen_of rs i β) e
+    where
+      taken : (b : Bool) → has r.at i ≡ b → (chosen rs i ≡ Some β → (q : Row R A) × Among q rs × (q.right ≡ β) × (has q.at i ≡ true)) → cond b (Some r.right) (chosen rs i) ≡ Some β
+          → (q : Row R A) × Among q (r ∷ rs) × (q.right ≡ β) × (has q.at i ≡ true)
+      taken true h k p = (r, first rs, cc, h)
+      taken false h k p = let q = k p in (q.0, later r rs q.1, q.2, q.3)
 
   module _ (sound : IsSound t) where
     row_within : (n : R) (r : Row R A) → Among r (t.rows n) → Within (leading t r.right (t.behind n)) r.at

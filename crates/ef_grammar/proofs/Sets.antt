@@ -17,6 +17,15 @@ apart_is s t i e h k =
     let both : min (bit_at s i) (bit_at t i) ≡ 0 = sym (bit_at_and s t i) ∙ ap (λ z. bit_at z i) (eqb-true (bit_and s t) 0 e) ∙ bit_at-zero i in
     omega (arith, both, eqb-true (bit_at s i) 1 h, eqb-true (bit_at t i) 1 k)
 
+pub both_have : (s t i : ℕ) → has s i ≡ true → has t i ≡ true → has (bit_and s t) i ≡ true
+both_have s t i h k = eq-eqb (bit_at (bit_and s t) i) 1 (omega (arith, bit_at_and s t i, eqb-true (bit_at s i) 1 h, eqb-true (bit_at t i) 1 k))
+
+pub one_has : (s t i : ℕ) → has (bit_and s t) i ≡ true → has s i ≡ true
+one_has s t i h = eq-eqb (bit_at s i) 1 (omega (arith, bit_at_and s t i, eqb-true (bit_at (bit_and s t) i) 1 h, bit_at-lt s i))
+
+pub other_has : (s t i : ℕ) → has (bit_and s t) i ≡ true → has t i ≡ true
+other_has s t i h = eq-eqb (bit_at t i) 1 (omega (arith, bit_at_and s t i, eqb-true (bit_at (bit_and s t) i) 1 h, bit_at-lt t i))
+
 pub one_side : (s t i : ℕ) → has s i ≡ true → has (bit_or s t) i ≡ true
 one_side s t i h =
     let either : bit_at (bit_or s t) i ≡ max (bit_at s i) (bit_at t i) = bit_at_or s t i in

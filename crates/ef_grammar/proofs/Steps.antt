@@ -10,10 +10,10 @@ not_nothing : {X : Type 0} (x : X) (xs : List X) → x ∷ xs ≡ [] → ⊥
 not_nothing x xs e = cc
 
 module _ {T V R A : Type 0} (g : Grammar T V R A) where
-  alike_then : (c : ℕ) (α β γ : List (Symbol R A)) (us vs ws : V) → Alike g c α us β vs → Alike g c β vs γ ws → Alike g c α us γ ws
+  pub alike_then : (c : ℕ) (α β γ : List (Symbol R A)) (us vs ws : V) → Alike g c α us β vs → Alike g c β vs γ ws → Alike g c α us γ ws
   alike_then c α β γ us vs ws h k rest ts δ zs e fin = (λ x. (k rest ts δ zs e fin).0 ((h rest ts δ zs e fin).0 x), λ x. (h rest ts δ zs e fin).1 ((k rest ts δ zs e fin).1 x))
 
-  alike_fails : (c : ℕ) (α β : List (Symbol R A)) (us vs : V) → Alike g c α us β vs → Fails g c β vs → Fails g c α us
+  pub alike_fails : (c : ℕ) (α β : List (Symbol R A)) (us vs : V) → Alike g c α us β vs → Fails g c β vs → Fails g c α us
   alike_fails c α β us vs h k rest ts δ zs e fin x = k rest ts δ zs e fin ((h rest ts δ zs e fin).0 x)
 
   -- ---- an action
@@ -84,7 +84,7 @@ module _ {T V R A : Type 0} (g : Grammar T V R A) where
         let b = ruled_back rest n α vs ts δ ws fin h in
         (b.0, sym e ∙ choice_is t sound g rows_are rest n b.0 α vs ts δ ws b.1 f fin b.2, b.2)
 
-    alike_rule : (c : ℕ) (n : R) (β α : List (Symbol R A)) (vs : V) → chosen (t.rows n) c ≡ Some β → Fits t (Rule n ∷ α) (ends t sound g rows_are)
+    pub alike_rule : (c : ℕ) (n : R) (β α : List (Symbol R A)) (vs : V) → chosen (t.rows n) c ≡ Some β → Fits t (Rule n ∷ α) (ends t sound g rows_are)
         → Alike g c (Rule n ∷ α) vs (β ++ α) vs
     alike_rule c n β α vs e f rest ts δ ws k fin =
         let e' : chosen (t.rows n) (g.look (ts ++ rest)) ≡ Some β = ap (λ z. chosen (t.rows n) z) k ∙ e in (
@@ -92,7 +92,7 @@ module _ {T V R A : Type 0} (g : Grammar T V R A) where
           λ h. goes n β α δ vs ts ws (subst (Among β) (rows_are n) (chosen_among t sound n β c e)) h,
         )
 
-    fails_rule : (c : ℕ) (n : R) (α : List (Symbol R A)) (vs : V) → chosen (t.rows n) c ≡ None → Fits t (Rule n ∷ α) (ends t sound g rows_are)
+    pub fails_rule : (c : ℕ) (n : R) (α : List (Symbol R A)) (vs : V) → chosen (t.rows n) c ≡ None → Fits t (Rule n ∷ α) (ends t sound g rows_are)
         → Fails g c (Rule n ∷ α) vs
     fails_rule c n α vs e f rest ts δ ws k fin h =
         let b = back_chosen rest n α vs ts δ ws None f fin (ap (λ z. chosen (t.rows n) z) k ∙ e) h in
@@ -113,18 +113,6 @@ module _ {T V R A : Type 0} (g : Grammar T V R A) where
       stops_act a α β vs kept top e =
           let k : Keeps (Act a ∷ α) vs = subst (λ z. Keeps z vs) top kept in
           alike_fails c α₀ (Act a ∷ α) vs₀ vs k.1 (fails_act c a α vs e)
-
-      pub keeps_rule : (n : R) (γ α β : List (Symbol R A)) (vs : V) → Keeps β vs → β ≡ Rule n ∷ α → chosen (t.rows n) c ≡ Some γ → Keeps (γ ++ α) vs
-      keeps_rule n γ α β vs kept top e =
-          let k : Keeps (Rule n ∷ α) vs = subst (λ z. Keeps z vs) top kept in (
-            chosen_fits t sound n γ α (ends t sound g rows_are) c e k.0,
-            alike_then c α₀ (Rule n ∷ α) (γ ++ α) vs₀ vs vs k.1 (alike_rule c n γ α vs e k.0),
-          )
-
-      pub stops_rule : (n : R) (α β : List (Symbol R A)) (vs : V) → Keeps β vs → β ≡ Rule n ∷ α → chosen (t.rows n) c ≡ None → Fails g c α₀ vs₀
-      stops_rule n α β vs kept top e =
-          let k : Keeps (Rule n ∷ α) vs = subst (λ z. Keeps z vs) top kept in
-          alike_fails c α₀ (Rule n ∷ α) vs₀ vs k.1 (fails_rule c n α vs e k.0)
 
       pub stops_token : (s : ℕ) (α β : List (Symbol R A)) (vs : V) → Keeps β vs → β ≡ Token s ∷ α → has s c ≡ false → Fails g c α₀ vs₀
       stops_token s α β vs kept top e =

@@ -1,10 +1,12 @@
 -- What the code's rows stand for.
-use Rattle.std.specs.Prelude.{Bool, true, false, List, map, reverse, Option, Some, None}
+use Rattle.std.specs.Prelude.{Bool, true, false, List, [], ◌∷◌, ◌++◌, map, reverse, Option, Some, None}
 use Rattle.ef_grammar.specs.Grammar as g
 use Rattle.ef_grammar.specs.Table as t
 use Rattle.ef_grammar.specs.declared.row.Symbol as rs
 use Rattle.ef_grammar.specs.declared.row.Symbol.TheVariants as symbol_is
 use Rattle.ef_grammar.specs.declared.row.Row as rr
+use Rattle.ef_grammar.specs.declared.symbols.Piece.{Piece}
+use Rattle.ef_grammar.specs.declared.symbols.Symbols.{Symbols}
 
 abbrev pub symbol : {R A : Type 0} → rs.Symbol R A → g.Symbol R A
 symbol (symbol_is.Token s) = g.Token s
@@ -12,11 +14,24 @@ symbol (symbol_is.Rule n) = g.Rule n
 symbol (symbol_is.Act a) = g.Act a
 
 abbrev pub row : {R A : Type 0} → rr.Row R A → t.Row R A
-row r = record { at = r.at; right = map symbol r.right.now }
+row r = record { at = r.at; right = map symbol r.right.now ++ map symbol r.then.now }
+
+abbrev pub joined : {R A : Type 0} → List (Piece R A) → List (g.Symbol R A)
+joined [] = []
+joined (p ∷ ps) = map symbol p.symbols.now ++ joined ps
+
+abbrev pub at_last : {R A : Type 0} → Option R → List (g.Symbol R A)
+at_last None = []
+at_last (Some n) = g.Rule n ∷ []
 
 -- the next one first
-abbrev pub symbols : {R A : Type 0} → List (rs.Symbol R A) → List (g.Symbol R A)
-symbols ss = reverse (map symbol ss)
+abbrev pub symbols : {R A : Type 0} → Symbols R A → List (g.Symbol R A)
+symbols s = map symbol s.front.now ++ joined (reverse s.behind.items) ++ at_last s.last
+
+-- the symbols with the one that was taken, if there was one
+abbrev pub with_next : {R A : Type 0} → Option (g.Symbol R A) → List (g.Symbol R A) → List (g.Symbol R A)
+with_next (Some x) α = x ∷ α
+with_next None α = []
 
 -- what an action gave: whether it took what was read, and the value then
 abbrev pub acted : {V : Type 0} → Bool → V → Option V

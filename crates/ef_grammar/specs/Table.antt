@@ -1,5 +1,5 @@
 -- The choice of a rule's right side by the class of the next token, and when it loses nothing.
-use Rattle.std.specs.Prelude.{◌≡◌, ℕ, suc, ◌+◌, Bool, true, ◌&&◌, nat_eq, nat_lt, bit_and, bit_or, cond, List, [], ◌∷◌, Option, Some, None}
+use Rattle.std.specs.Prelude.{◌≡◌, ℕ, zero, suc, ◌+◌, Bool, true, ◌&&◌, nat_eq, nat_lt, bit_and, bit_or, cond, List, [], ◌∷◌, ◌++◌, Option, Some, None}
 use Rattle.ef_grammar.specs.Grammar.{Symbol, Token, Rule, Act, has}
 
 abbrev pub within : ℕ → ℕ → Bool
@@ -31,11 +31,13 @@ abbrev pub rowed : {R A : Type 0} → List ℕ → List (List (Symbol R A)) → 
 rowed (s ∷ ss) (α ∷ αs) = record { at = s; right = α } ∷ rowed ss αs
 rowed _ _ = []
 
--- The rows of each rule, the classes of what may stand behind it, and a bound of the steps before its first token.
+-- The rows of each rule, the classes of what may stand behind it, and a bound of the steps before its first token. `ahead` is
+-- how many levels of rules are opened ahead of a run.
 pub record Table (R A : Type 0) : Type 0 where
   pub rows : R → List (Row R A)
   pub behind : R → ℕ
   pub height : R → ℕ
+  pub ahead : R → ℕ
 
 module _ {R A : Type 0} (t : Table R A) where
   -- the classes of the token at which the symbols are begun, where these stand behind them
@@ -69,3 +71,26 @@ module _ {R A : Type 0} (t : Table R A) where
   -- The condition LL(1): no class chooses two rows of a rule, and each row is chosen at all that it may begin with.
   abbrev pub IsSound : Type 0
   IsSound = (n : R) → are_fit n (t.rows n) ≡ true
+
+  -- ---- rows that are opened
+
+  -- these rows before α, at some classes alone
+  abbrev pub before : ℕ → List (Symbol R A) → List (Row R A) → List (Row R A)
+  before s α [] = []
+  before s α (r ∷ rs) = record { at = bit_and s r.at; right = r.right ++ α } ∷ before s α rs
+
+  -- a right side that begins with a rule has that rule's rows in its place
+  abbrev pub opened_row : ℕ → List (Symbol R A) → List (Row R A)
+  opened_row s (Rule n ∷ α) = before s α (t.rows n)
+  opened_row s α = record { at = s; right = α } ∷ []
+
+  abbrev pub opened_once : List (Row R A) → List (Row R A)
+  opened_once [] = []
+  opened_once (r ∷ rs) = opened_row r.at r.right ++ opened_once rs
+
+  abbrev pub opened : ℕ → List (Row R A) → List (Row R A)
+  opened zero rs = rs
+  opened (suc k) rs = opened k (opened_once rs)
+
+  abbrev pub opened_rows : R → List (Row R A)
+  opened_rows n = opened (t.ahead n) (t.rows n)

@@ -50,9 +50,9 @@ pub trait Grammar {
     ) -> Result<bool, AllocError>
         ensures { IfOk result (λ ok. acted ok (value state.new) ≡ (grammar self.now).act action (value state.old)) };
 
-    /// The right sides of the rule.
+    /// The right sides of the rule, opened ahead.
     fn rows(&self, rule: Self::Rule) -> &'static [Row<Self::Rule, Self::Action>]
-        ensures { map row result.now ≡ table.rows rule };
+        ensures { map row result.now ≡ t.opened_rows table rule };
 
     ghost sound: { t.IsSound table };
 

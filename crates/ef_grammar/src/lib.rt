@@ -5,6 +5,7 @@ mod given;
 mod machine;
 mod moves;
 mod row;
+mod symbols;
 
 pub use given::Grammar;
 pub use machine::{Outcome, parse};

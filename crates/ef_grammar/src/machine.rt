@@ -5,7 +5,7 @@ ghost use Rattle.ef_grammar.specs.Answers.{IsOutcome};
 
 use crate::given::Grammar;
 use crate::moves::{Next, advance};
-use crate::row::Symbol;
+use crate::symbols::{Symbols, only};
 use std::alloc::{AllocError, Global};
 
 /// What all the tokens make, or the index of the token that is refused; it is the number of tokens where one is wanted.
@@ -26,8 +26,7 @@ pub fn parse<G: Grammar>(
     requires ends { g.has (G.table.behind start) ((G.grammar language.now).look []) ≡ true }
     ensures { IfOk result (λ o. IsOutcome (G.grammar language.now) G.value start (G.value state) tokens.now o) }
 {
-    let mut symbols = Vec::new(alloc);
-    symbols.push(Symbol::Rule(start))?;
+    let mut symbols: Symbols<'static, G::Rule, G::Action> = only(alloc, start);
     let mut at = 0;
     'tokens: loop {
         let class = language.look(tokens, at);

@@ -8,8 +8,10 @@ pub enum Symbol<R, A> {
     Act(A),
 }
 
-/// A right side of a rule, and the set of the classes of tokens at which it is chosen.
+/// A right side of a rule, in two parts, and the set of the classes of tokens at which it is chosen. Rows may share their
+/// second parts.
 pub struct Row<R: 'static, A: 'static> {
     pub at: u64,
     pub right: &'static [Symbol<R, A>],
+    pub then: &'static [Symbol<R, A>],
 }

@@ -1,5 +1,5 @@
--- At which classes each right side is chosen, what may stand behind each rule, and a bound of the steps before
--- its first token. These numbers are checked, and tell a reader nothing of the language.
+-- At which classes each right side is chosen, what may stand behind each rule, a bound of the steps before its first
+-- token, and how many levels are opened ahead. These numbers are checked, and tell a reader nothing of the language.
 use Rattle.std.specs.Prelude.{ℕ, List, [], ◌∷◌}
 use Rattle.ef_grammar.specs.Table.{Row, Table, rowed}
 use Rattle.ef_rows.specs.declared.rows.RuleName.{RuleName}
@@ -349,8 +349,20 @@ height r.ConstantBin = 3
 height r.ConstantBinMore = 1
 height r.ConstantSegment = 1
 
+abbrev pub ahead : RuleName → ℕ
+ahead r.Expression = 9
+ahead r.Match = 8
+ahead r.Orelse = 7
+ahead r.Andalso = 6
+ahead r.Cmp = 5
+ahead r.List = 4
+ahead r.Add = 3
+ahead r.Mul = 2
+ahead r.Unary = 1
+ahead n = 0
+
 abbrev pub rows : RuleName → List (Row RuleName Action)
 rows n = rowed (at n) (rules n)
 
 abbrev pub table : Table RuleName Action
-table = record { rows = rows; behind = behind; height = height }
+table = record { rows = rows; behind = behind; height = height; ahead = ahead }

@@ -9,6 +9,7 @@ pub const BIN_REST: &[Row<RuleName, Action>] = &[
     Row {
         at: 0x80,
         right: &[Token(1 << classes::RIGHT_BITS), Act(Action::Bin)],
+        then: &[],
     },
     Row {
         at: 0x118000000,
@@ -19,10 +20,12 @@ pub const BIN_REST: &[Row<RuleName, Action>] = &[
             Rule(RuleName::SegmentRest),
             Rule(RuleName::SegmentsMore),
         ],
+        then: &[],
     },
     Row {
         at: 0x370df800000055,
         right: &[Rule(RuleName::Max), Rule(RuleName::BinFirst)],
+        then: &[],
     },
 ];
 
@@ -35,10 +38,12 @@ pub const BIN_FIRST: &[Row<RuleName, Action>] = &[
             Token(1 << classes::RIGHT_BITS),
             Act(Action::BinComp),
         ],
+        then: &[],
     },
     Row {
         at: 0x40000780,
         right: &[Rule(RuleName::SegmentRest), Rule(RuleName::SegmentsMore)],
+        then: &[],
     },
 ];
 
@@ -50,10 +55,12 @@ pub const SEGMENTS_MORE: &[Row<RuleName, Action>] = &[
             Rule(RuleName::Segment),
             Rule(RuleName::SegmentsMore),
         ],
+        then: &[],
     },
     Row {
         at: 0x80,
         right: &[Token(1 << classes::RIGHT_BITS), Act(Action::Bin)],
+        then: &[],
     },
 ];
 
@@ -66,10 +73,12 @@ pub const SEGMENT: &[Row<RuleName, Action>] = &[
             Act(Action::Unary),
             Rule(RuleName::SegmentRest),
         ],
+        then: &[],
     },
     Row {
         at: 0x370df800000055,
         right: &[Rule(RuleName::Max), Rule(RuleName::SegmentRest)],
+        then: &[],
     },
 ];
 
@@ -81,6 +90,7 @@ pub const SEGMENT_REST: &[Row<RuleName, Action>] = &[Row {
         Rule(RuleName::SegmentTypes),
         Act(Action::AddSegment),
     ],
+    then: &[],
 }];
 
 pub const SEGMENT_SIZE: &[Row<RuleName, Action>] = &[
@@ -91,10 +101,12 @@ pub const SEGMENT_SIZE: &[Row<RuleName, Action>] = &[
             Rule(RuleName::Max),
             Act(Action::Size),
         ],
+        then: &[],
     },
     Row {
         at: 0x40000180,
         right: &[],
+        then: &[],
     },
 ];
 
@@ -106,10 +118,12 @@ pub const SEGMENT_TYPES: &[Row<RuleName, Action>] = &[
             Rule(RuleName::Word),
             Rule(RuleName::WordsMore),
         ],
+        then: &[],
     },
     Row {
         at: 0x180,
         right: &[],
+        then: &[],
     },
 ];
 
@@ -121,16 +135,19 @@ pub const WORDS_MORE: &[Row<RuleName, Action>] = &[
             Rule(RuleName::Word),
             Rule(RuleName::WordsMore),
         ],
+        then: &[],
     },
     Row {
         at: 0x180,
         right: &[],
+        then: &[],
     },
 ];
 
 pub const WORD: &[Row<RuleName, Action>] = &[Row {
     at: 0x800000000,
     right: &[Token(1 << classes::ATOM), Rule(RuleName::WordNumber)],
+    then: &[],
 }];
 
 pub const WORD_NUMBER: &[Row<RuleName, Action>] = &[
@@ -141,10 +158,12 @@ pub const WORD_NUMBER: &[Row<RuleName, Action>] = &[
             Token(1 << classes::INT),
             Act(Action::WordNumber),
         ],
+        then: &[],
     },
     Row {
         at: 0x10000180,
         right: &[Act(Action::Word)],
+        then: &[],
     },
 ];
 
@@ -155,6 +174,7 @@ pub const QUALIFIERS: &[Row<RuleName, Action>] = &[Row {
         Rule(RuleName::Qualifier),
         Rule(RuleName::QualifiersMore),
     ],
+    then: &[],
 }];
 
 pub const QUALIFIERS_MORE: &[Row<RuleName, Action>] = &[
@@ -165,10 +185,12 @@ pub const QUALIFIERS_MORE: &[Row<RuleName, Action>] = &[
             Rule(RuleName::Qualifier),
             Rule(RuleName::QualifiersMore),
         ],
+        then: &[],
     },
     Row {
         at: 0x88,
         right: &[],
+        then: &[],
     },
 ];
 
@@ -181,6 +203,7 @@ pub const QUALIFIER: &[Row<RuleName, Action>] = &[
             Act(Action::Catching),
             Rule(RuleName::QualifierTail),
         ],
+        then: &[],
     },
     Row {
         at: 0x118000000,
@@ -191,6 +214,7 @@ pub const QUALIFIER: &[Row<RuleName, Action>] = &[
             Rule(RuleName::UnaryMore),
             Rule(RuleName::QualifierTail),
         ],
+        then: &[],
     },
     Row {
         at: 0x80000,
@@ -202,10 +226,12 @@ pub const QUALIFIER: &[Row<RuleName, Action>] = &[
             Rule(RuleName::UnaryMore),
             Rule(RuleName::QualifierTail),
         ],
+        then: &[],
     },
     Row {
         at: 0x370df800000055,
         right: &[Rule(RuleName::Max), Rule(RuleName::QualifierMax)],
+        then: &[],
     },
 ];
 
@@ -217,6 +243,7 @@ pub const QUALIFIER_MAX: &[Row<RuleName, Action>] = &[
             Rule(RuleName::Expression),
             Act(Action::From),
         ],
+        then: &[],
     },
     Row {
         at: 0x148f206feffefab,
@@ -225,6 +252,7 @@ pub const QUALIFIER_MAX: &[Row<RuleName, Action>] = &[
             Rule(RuleName::UnaryMore),
             Rule(RuleName::QualifierTail),
         ],
+        then: &[],
     },
 ];
 
@@ -236,10 +264,12 @@ pub const QUALIFIER_TAIL: &[Row<RuleName, Action>] = &[
             Rule(RuleName::Expression),
             Act(Action::From),
         ],
+        then: &[],
     },
     Row {
         at: 0x188,
         right: &[Act(Action::Filter)],
+        then: &[],
     },
 ];
 
@@ -254,16 +284,19 @@ pub const UNARY_MORE: &[Row<RuleName, Action>] = &[Row {
         Rule(RuleName::OrelseTail),
         Rule(RuleName::MatchTail),
     ],
+    then: &[],
 }];
 
 pub const GUARD_OPT: &[Row<RuleName, Action>] = &[
     Row {
         at: 0x40000000000000,
         right: &[Token(1 << classes::WHEN), Rule(RuleName::Guard)],
+        then: &[],
     },
     Row {
         at: 0x10000,
         right: &[Act(Action::NoGuard)],
+        then: &[],
     },
 ];
 
@@ -275,6 +308,7 @@ pub const GUARD: &[Row<RuleName, Action>] = &[Row {
         Act(Action::AddGuard),
         Rule(RuleName::GuardMore),
     ],
+    then: &[],
 }];
 
 pub const GUARD_MORE: &[Row<RuleName, Action>] = &[
@@ -286,10 +320,12 @@ pub const GUARD_MORE: &[Row<RuleName, Action>] = &[
             Act(Action::AddGuard),
             Rule(RuleName::GuardMore),
         ],
+        then: &[],
     },
     Row {
         at: 0x10000,
         right: &[],
+        then: &[],
     },
 ];
 
@@ -300,6 +336,7 @@ pub const IF_CLAUSES: &[Row<RuleName, Action>] = &[Row {
         Rule(RuleName::IfClause),
         Rule(RuleName::IfMore),
     ],
+    then: &[],
 }];
 
 pub const IF_MORE: &[Row<RuleName, Action>] = &[
@@ -310,10 +347,12 @@ pub const IF_MORE: &[Row<RuleName, Action>] = &[
             Rule(RuleName::IfClause),
             Rule(RuleName::IfMore),
         ],
+        then: &[],
     },
     Row {
         at: 0x800000000000,
         right: &[],
+        then: &[],
     },
 ];
 
@@ -325,6 +364,7 @@ pub const IF_CLAUSE: &[Row<RuleName, Action>] = &[Row {
         Rule(RuleName::Body),
         Act(Action::IfClause),
     ],
+    then: &[],
 }];
 
 pub const CLAUSES: &[Row<RuleName, Action>] = &[Row {
@@ -334,6 +374,7 @@ pub const CLAUSES: &[Row<RuleName, Action>] = &[Row {
         Rule(RuleName::Clause),
         Rule(RuleName::ClausesMore),
     ],
+    then: &[],
 }];
 
 pub const CLAUSES_MORE: &[Row<RuleName, Action>] = &[
@@ -344,10 +385,12 @@ pub const CLAUSES_MORE: &[Row<RuleName, Action>] = &[
             Rule(RuleName::Clause),
             Rule(RuleName::ClausesMore),
         ],
+        then: &[],
     },
     Row {
         at: 0xb20000000000,
         right: &[],
+        then: &[],
     },
 ];
 
@@ -360,12 +403,14 @@ pub const CLAUSE: &[Row<RuleName, Action>] = &[Row {
         Rule(RuleName::Body),
         Act(Action::Clause),
     ],
+    then: &[],
 }];
 
 pub const RECEIVE_REST: &[Row<RuleName, Action>] = &[
     Row {
         at: 0x373df918080055,
         right: &[Rule(RuleName::Clauses), Rule(RuleName::ReceiveAfter)],
+        then: &[],
     },
     Row {
         at: 0x20000000000,
@@ -378,6 +423,7 @@ pub const RECEIVE_REST: &[Row<RuleName, Action>] = &[
             Token(1 << classes::END),
             Act(Action::ReceiveAfter),
         ],
+        then: &[],
     },
 ];
 
@@ -392,10 +438,12 @@ pub const RECEIVE_AFTER: &[Row<RuleName, Action>] = &[
             Token(1 << classes::END),
             Act(Action::ReceiveAfter),
         ],
+        then: &[],
     },
     Row {
         at: 0x800000000000,
         right: &[Token(1 << classes::END), Act(Action::ReceiveOf)],
+        then: &[],
     },
 ];
 
@@ -408,6 +456,7 @@ pub const TRY_OF: &[Row<RuleName, Action>] = &[
             Act(Action::NoCatches),
             Rule(RuleName::TryRest),
         ],
+        then: &[],
     },
     Row {
         at: 0x320000000000,
@@ -416,6 +465,7 @@ pub const TRY_OF: &[Row<RuleName, Action>] = &[
             Act(Action::NoCatches),
             Rule(RuleName::TryRest),
         ],
+        then: &[],
     },
 ];
 
@@ -430,6 +480,7 @@ pub const TRY_REST: &[Row<RuleName, Action>] = &[
             Rule(RuleName::CatchesMore),
             Rule(RuleName::TryAfter),
         ],
+        then: &[],
     },
     Row {
         at: 0x200000000000,
@@ -441,6 +492,7 @@ pub const TRY_REST: &[Row<RuleName, Action>] = &[
             Rule(RuleName::CatchesMore),
             Rule(RuleName::TryAfter),
         ],
+        then: &[],
     },
     Row {
         at: 0x20000000000,
@@ -450,6 +502,7 @@ pub const TRY_REST: &[Row<RuleName, Action>] = &[
             Token(1 << classes::END),
             Act(Action::TryOf),
         ],
+        then: &[],
     },
 ];
 
@@ -462,6 +515,7 @@ pub const TRY_AFTER: &[Row<RuleName, Action>] = &[
             Token(1 << classes::END),
             Act(Action::TryOf),
         ],
+        then: &[],
     },
     Row {
         at: 0x800000000000,
@@ -470,6 +524,7 @@ pub const TRY_AFTER: &[Row<RuleName, Action>] = &[
             Token(1 << classes::END),
             Act(Action::TryOf),
         ],
+        then: &[],
     },
 ];
 
@@ -482,6 +537,7 @@ pub const CATCHES_MORE: &[Row<RuleName, Action>] = &[
             Rule(RuleName::CatchClause),
             Rule(RuleName::CatchesMore),
         ],
+        then: &[],
     },
     Row {
         at: 0x8000,
@@ -491,10 +547,12 @@ pub const CATCHES_MORE: &[Row<RuleName, Action>] = &[
             Rule(RuleName::CatchClause),
             Rule(RuleName::CatchesMore),
         ],
+        then: &[],
     },
     Row {
         at: 0x820000000000,
         right: &[],
+        then: &[],
     },
 ];
 
@@ -505,6 +563,7 @@ pub const CLASS: &[Row<RuleName, Action>] = &[Row {
         Token(classes::ANY_COLON),
         Act(Action::Class),
     ],
+    then: &[],
 }];
 
 pub const CATCH_CLAUSE: &[Row<RuleName, Action>] = &[Row {
@@ -517,6 +576,7 @@ pub const CATCH_CLAUSE: &[Row<RuleName, Action>] = &[Row {
         Rule(RuleName::Body),
         Act(Action::CatchClause),
     ],
+    then: &[],
 }];
 
 pub const STEPS_MORE: &[Row<RuleName, Action>] = &[
@@ -527,10 +587,12 @@ pub const STEPS_MORE: &[Row<RuleName, Action>] = &[
             Rule(RuleName::Step),
             Rule(RuleName::StepsMore),
         ],
+        then: &[],
     },
     Row {
         at: 0xc00000000000,
         right: &[],
+        then: &[],
     },
 ];
 
@@ -543,10 +605,12 @@ pub const STEP: &[Row<RuleName, Action>] = &[
             Act(Action::Catching),
             Act(Action::Step),
         ],
+        then: &[],
     },
     Row {
         at: 0x370df918080055,
         right: &[Rule(RuleName::Orelse), Rule(RuleName::StepTail)],
+        then: &[],
     },
 ];
 
@@ -558,10 +622,12 @@ pub const STEP_TAIL: &[Row<RuleName, Action>] = &[
             Rule(RuleName::Expression),
             Act(Action::StepMatch),
         ],
+        then: &[],
     },
     Row {
         at: 0x148f20000b7e9aa,
         right: &[Rule(RuleName::MatchTail), Act(Action::Step)],
+        then: &[],
     },
 ];
 
@@ -574,6 +640,7 @@ pub const MAYBE_ELSE: &[Row<RuleName, Action>] = &[
             Token(1 << classes::END),
             Act(Action::MaybeOf),
         ],
+        then: &[],
     },
     Row {
         at: 0x800000000000,
@@ -582,6 +649,7 @@ pub const MAYBE_ELSE: &[Row<RuleName, Action>] = &[
             Token(1 << classes::END),
             Act(Action::MaybeOf),
         ],
+        then: &[],
     },
 ];
 
@@ -589,10 +657,12 @@ pub const FUN_REST: &[Row<RuleName, Action>] = &[
     Row {
         at: 0x800000000,
         right: &[Token(1 << classes::ATOM), Rule(RuleName::FunAtom)],
+        then: &[],
     },
     Row {
         at: 0x3000000000,
         right: &[Token(classes::VARIABLE), Rule(RuleName::FunVar)],
+        then: &[],
     },
     Row {
         at: 0x1,
@@ -603,6 +673,7 @@ pub const FUN_REST: &[Row<RuleName, Action>] = &[
             Token(1 << classes::END),
             Act(Action::FunOf),
         ],
+        then: &[],
     },
 ];
 
@@ -614,10 +685,12 @@ pub const FUN_ATOM: &[Row<RuleName, Action>] = &[
             Token(1 << classes::INT),
             Act(Action::FunLocal),
         ],
+        then: &[],
     },
     Row {
         at: 0x600,
         right: &[Rule(RuleName::FunRemote)],
+        then: &[],
     },
 ];
 
@@ -631,10 +704,12 @@ pub const FUN_VAR: &[Row<RuleName, Action>] = &[
             Token(1 << classes::END),
             Act(Action::FunOf),
         ],
+        then: &[],
     },
     Row {
         at: 0x600,
         right: &[Rule(RuleName::FunRemote)],
+        then: &[],
     },
 ];
 
@@ -647,21 +722,25 @@ pub const FUN_REMOTE: &[Row<RuleName, Action>] = &[Row {
         Rule(RuleName::Arity),
         Act(Action::FunRemote),
     ],
+    then: &[],
 }];
 
 pub const NAME: &[Row<RuleName, Action>] = &[Row {
     at: 0x3800000000,
     right: &[Token(classes::NAME), Act(Action::Leaf)],
+    then: &[],
 }];
 
 pub const ARITY: &[Row<RuleName, Action>] = &[
     Row {
         at: 0x4000000000,
         right: &[Token(1 << classes::INT), Act(Action::Leaf)],
+        then: &[],
     },
     Row {
         at: 0x3000000000,
         right: &[Token(classes::VARIABLE), Act(Action::Leaf)],
+        then: &[],
     },
 ];
 
@@ -675,6 +754,7 @@ pub const FUN_CLAUSE: &[Row<RuleName, Action>] = &[Row {
         Token(1 << classes::ARROW),
         Rule(RuleName::Body),
     ],
+    then: &[],
 }];
 
 pub const FUN_CLAUSES_MORE: &[Row<RuleName, Action>] = &[
@@ -686,10 +766,12 @@ pub const FUN_CLAUSES_MORE: &[Row<RuleName, Action>] = &[
             Act(Action::FunClause),
             Rule(RuleName::FunClausesMore),
         ],
+        then: &[],
     },
     Row {
         at: 0x800000000000,
         right: &[],
+        then: &[],
     },
 ];
 
@@ -703,9 +785,11 @@ pub const NAMED_CLAUSES_MORE: &[Row<RuleName, Action>] = &[
             Act(Action::NamedClause),
             Rule(RuleName::NamedClausesMore),
         ],
+        then: &[],
     },
     Row {
         at: 0x800000000000,
         right: &[],
+        then: &[],
     },
 ];

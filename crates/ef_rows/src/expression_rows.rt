@@ -5,26 +5,6 @@ use crate::rows::{Action, RuleName};
 use ef_grammar::Row;
 use ef_grammar::Symbol::{Act, Rule, Token};
 
-pub const EXPRESSION: &[Row<RuleName, Action>] = &[
-    Row {
-        at: 0x300000000000,
-        right: &[
-            Token(classes::ANY_CATCH),
-            Rule(RuleName::Expression),
-            Act(Action::Catching),
-        ],
-    },
-    Row {
-        at: 0x370df918080055,
-        right: &[Rule(RuleName::Match)],
-    },
-];
-
-pub const MATCH: &[Row<RuleName, Action>] = &[Row {
-    at: 0x370df918080055,
-    right: &[Rule(RuleName::Orelse), Rule(RuleName::MatchTail)],
-}];
-
 pub const MATCH_TAIL: &[Row<RuleName, Action>] = &[
     Row {
         at: 0x100000,
@@ -33,6 +13,7 @@ pub const MATCH_TAIL: &[Row<RuleName, Action>] = &[
             Rule(RuleName::Expression),
             Act(Action::Matching),
         ],
+        then: &[],
     },
     Row {
         at: 0x200000,
@@ -41,17 +22,14 @@ pub const MATCH_TAIL: &[Row<RuleName, Action>] = &[
             Rule(RuleName::Expression),
             Act(Action::Binary),
         ],
+        then: &[],
     },
     Row {
         at: 0x148f2000087e9aa,
         right: &[],
+        then: &[],
     },
 ];
-
-pub const ORELSE: &[Row<RuleName, Action>] = &[Row {
-    at: 0x370df918080055,
-    right: &[Rule(RuleName::Andalso), Rule(RuleName::OrelseTail)],
-}];
 
 pub const ORELSE_TAIL: &[Row<RuleName, Action>] = &[
     Row {
@@ -61,17 +39,14 @@ pub const ORELSE_TAIL: &[Row<RuleName, Action>] = &[
             Rule(RuleName::Orelse),
             Act(Action::OrElse),
         ],
+        then: &[],
     },
     Row {
         at: 0x148f20000f7e9aa,
         right: &[],
+        then: &[],
     },
 ];
-
-pub const ANDALSO: &[Row<RuleName, Action>] = &[Row {
-    at: 0x370df918080055,
-    right: &[Rule(RuleName::Cmp), Rule(RuleName::AndalsoTail)],
-}];
 
 pub const ANDALSO_TAIL: &[Row<RuleName, Action>] = &[
     Row {
@@ -81,17 +56,14 @@ pub const ANDALSO_TAIL: &[Row<RuleName, Action>] = &[
             Rule(RuleName::Andalso),
             Act(Action::AndAlso),
         ],
+        then: &[],
     },
     Row {
         at: 0x148f20400f7e9aa,
         right: &[],
+        then: &[],
     },
 ];
-
-pub const CMP: &[Row<RuleName, Action>] = &[Row {
-    at: 0x370df918080055,
-    right: &[Rule(RuleName::List), Rule(RuleName::CmpTail)],
-}];
 
 pub const CMP_TAIL: &[Row<RuleName, Action>] = &[
     Row {
@@ -101,17 +73,14 @@ pub const CMP_TAIL: &[Row<RuleName, Action>] = &[
             Rule(RuleName::List),
             Act(Action::Binary),
         ],
+        then: &[],
     },
     Row {
         at: 0x148f20600f7e9aa,
         right: &[],
+        then: &[],
     },
 ];
-
-pub const LIST: &[Row<RuleName, Action>] = &[Row {
-    at: 0x370df918080055,
-    right: &[Rule(RuleName::Add), Rule(RuleName::ListTail)],
-}];
 
 pub const LIST_TAIL: &[Row<RuleName, Action>] = &[
     Row {
@@ -121,17 +90,14 @@ pub const LIST_TAIL: &[Row<RuleName, Action>] = &[
             Rule(RuleName::List),
             Act(Action::Binary),
         ],
+        then: &[],
     },
     Row {
         at: 0x148f20602f7e9aa,
         right: &[],
+        then: &[],
     },
 ];
-
-pub const ADD: &[Row<RuleName, Action>] = &[Row {
-    at: 0x370df918080055,
-    right: &[Rule(RuleName::Mul), Rule(RuleName::AddTail)],
-}];
 
 pub const ADD_TAIL: &[Row<RuleName, Action>] = &[
     Row {
@@ -142,17 +108,14 @@ pub const ADD_TAIL: &[Row<RuleName, Action>] = &[
             Act(Action::Binary),
             Rule(RuleName::AddTail),
         ],
+        then: &[],
     },
     Row {
         at: 0x148f20606f7e9aa,
         right: &[],
+        then: &[],
     },
 ];
-
-pub const MUL: &[Row<RuleName, Action>] = &[Row {
-    at: 0x370df918080055,
-    right: &[Rule(RuleName::Unary), Rule(RuleName::MulTail)],
-}];
 
 pub const MUL_TAIL: &[Row<RuleName, Action>] = &[
     Row {
@@ -163,34 +126,12 @@ pub const MUL_TAIL: &[Row<RuleName, Action>] = &[
             Act(Action::Binary),
             Rule(RuleName::MulTail),
         ],
+        then: &[],
     },
     Row {
         at: 0x148f2063ef7e9aa,
         right: &[],
-    },
-];
-
-pub const UNARY: &[Row<RuleName, Action>] = &[
-    Row {
-        at: 0x118000000,
-        right: &[
-            Token(classes::UNARY_OP),
-            Rule(RuleName::Unary),
-            Act(Action::Unary),
-        ],
-    },
-    Row {
-        at: 0x80000,
-        right: &[
-            Token(1 << classes::HASH),
-            Token(1 << classes::ATOM),
-            Rule(RuleName::RecordNew),
-            Rule(RuleName::RecordMore),
-        ],
-    },
-    Row {
-        at: 0x370df800000055,
-        right: &[Rule(RuleName::Max), Rule(RuleName::MaxTail)],
+        then: &[],
     },
 ];
 
@@ -204,6 +145,7 @@ pub const MAX_TAIL: &[Row<RuleName, Action>] = &[
             Act(Action::Call),
             Rule(RuleName::TraceTail),
         ],
+        then: &[],
     },
     Row {
         at: 0x200,
@@ -216,6 +158,7 @@ pub const MAX_TAIL: &[Row<RuleName, Action>] = &[
             Act(Action::Remote),
             Rule(RuleName::TraceTail),
         ],
+        then: &[],
     },
     Row {
         at: 0x400,
@@ -224,6 +167,7 @@ pub const MAX_TAIL: &[Row<RuleName, Action>] = &[
             Token(classes::VARIABLE),
             Act(Action::Trace),
         ],
+        then: &[],
     },
     Row {
         at: 0x80000,
@@ -233,10 +177,12 @@ pub const MAX_TAIL: &[Row<RuleName, Action>] = &[
             Rule(RuleName::RecordUse),
             Rule(RuleName::RecordMore),
         ],
+        then: &[],
     },
     Row {
         at: 0x148f206fef7e9aa,
         right: &[],
+        then: &[],
     },
 ];
 
@@ -249,10 +195,12 @@ pub const RECORD_MORE: &[Row<RuleName, Action>] = &[
             Rule(RuleName::RecordUse),
             Rule(RuleName::RecordMore),
         ],
+        then: &[],
     },
     Row {
         at: 0x148f206fef7efaa,
         right: &[Rule(RuleName::TraceTail)],
+        then: &[],
     },
 ];
 
@@ -264,6 +212,7 @@ pub const RECORD_NEW: &[Row<RuleName, Action>] = &[
             Rule(RuleName::Fields),
             Act(Action::RecordNew),
         ],
+        then: &[],
     },
     Row {
         at: 0x1000,
@@ -272,6 +221,7 @@ pub const RECORD_NEW: &[Row<RuleName, Action>] = &[
             Token(1 << classes::ATOM),
             Act(Action::RecordIndex),
         ],
+        then: &[],
     },
 ];
 
@@ -283,6 +233,7 @@ pub const RECORD_USE: &[Row<RuleName, Action>] = &[
             Rule(RuleName::Fields),
             Act(Action::RecordUpdate),
         ],
+        then: &[],
     },
     Row {
         at: 0x1000,
@@ -291,22 +242,26 @@ pub const RECORD_USE: &[Row<RuleName, Action>] = &[
             Token(1 << classes::ATOM),
             Act(Action::RecordField),
         ],
+        then: &[],
     },
 ];
 
 pub const FIELDS: &[Row<RuleName, Action>] = &[Row {
     at: 0x2800000020,
     right: &[Act(Action::NoFields), Rule(RuleName::FieldsRest)],
+    then: &[],
 }];
 
 pub const FIELDS_REST: &[Row<RuleName, Action>] = &[
     Row {
         at: 0x20,
         right: &[Token(1 << classes::RIGHT_BRACE)],
+        then: &[],
     },
     Row {
         at: 0x2800000000,
         right: &[Rule(RuleName::Field), Rule(RuleName::FieldsMore)],
+        then: &[],
     },
 ];
 
@@ -318,10 +273,12 @@ pub const FIELDS_MORE: &[Row<RuleName, Action>] = &[
             Rule(RuleName::Field),
             Rule(RuleName::FieldsMore),
         ],
+        then: &[],
     },
     Row {
         at: 0x20,
         right: &[Token(1 << classes::RIGHT_BRACE)],
+        then: &[],
     },
 ];
 
@@ -334,6 +291,7 @@ pub const FIELD: &[Row<RuleName, Action>] = &[
             Rule(RuleName::Expression),
             Act(Action::Field),
         ],
+        then: &[],
     },
     Row {
         at: 0x2000000000,
@@ -343,6 +301,7 @@ pub const FIELD: &[Row<RuleName, Action>] = &[
             Rule(RuleName::Expression),
             Act(Action::Field),
         ],
+        then: &[],
     },
 ];
 
@@ -355,6 +314,7 @@ pub const TRACE_TAIL: &[Row<RuleName, Action>] = &[
             Token(classes::VARIABLE),
             Act(Action::Trace),
         ],
+        then: &[],
     },
     Row {
         at: 0x200,
@@ -364,10 +324,12 @@ pub const TRACE_TAIL: &[Row<RuleName, Action>] = &[
             Token(classes::VARIABLE),
             Act(Action::Refuse),
         ],
+        then: &[],
     },
     Row {
         at: 0x148f206fef7e9aa,
         right: &[],
+        then: &[],
     },
 ];
 
@@ -375,6 +337,7 @@ pub const MAX: &[Row<RuleName, Action>] = &[
     Row {
         at: 0xf800000000,
         right: &[Token(classes::SINGLE), Act(Action::Leaf)],
+        then: &[],
     },
     Row {
         at: 0x10000000000,
@@ -383,6 +346,7 @@ pub const MAX: &[Row<RuleName, Action>] = &[
             Act(Action::Leaf),
             Rule(RuleName::Strings),
         ],
+        then: &[],
     },
     Row {
         at: 0x1,
@@ -392,6 +356,7 @@ pub const MAX: &[Row<RuleName, Action>] = &[
             Token(1 << classes::RIGHT_PAREN),
             Act(Action::Parens),
         ],
+        then: &[],
     },
     Row {
         at: 0x4,
@@ -400,6 +365,7 @@ pub const MAX: &[Row<RuleName, Action>] = &[
             Act(Action::None),
             Rule(RuleName::ListRest),
         ],
+        then: &[],
     },
     Row {
         at: 0x10,
@@ -408,6 +374,7 @@ pub const MAX: &[Row<RuleName, Action>] = &[
             Act(Action::None),
             Rule(RuleName::TupleRest),
         ],
+        then: &[],
     },
     Row {
         at: 0x40,
@@ -416,6 +383,7 @@ pub const MAX: &[Row<RuleName, Action>] = &[
             Act(Action::NoSegments),
             Rule(RuleName::BinRest),
         ],
+        then: &[],
     },
     Row {
         at: 0x40000000000,
@@ -425,6 +393,7 @@ pub const MAX: &[Row<RuleName, Action>] = &[
             Token(1 << classes::END),
             Act(Action::Block),
         ],
+        then: &[],
     },
     Row {
         at: 0x2000000000000,
@@ -434,6 +403,7 @@ pub const MAX: &[Row<RuleName, Action>] = &[
             Token(1 << classes::END),
             Act(Action::IfOf),
         ],
+        then: &[],
     },
     Row {
         at: 0x80000000000,
@@ -445,10 +415,12 @@ pub const MAX: &[Row<RuleName, Action>] = &[
             Token(1 << classes::END),
             Act(Action::CaseOf),
         ],
+        then: &[],
     },
     Row {
         at: 0x10000000000000,
         right: &[Token(1 << classes::RECEIVE), Rule(RuleName::ReceiveRest)],
+        then: &[],
     },
     Row {
         at: 0x20000000000000,
@@ -457,6 +429,7 @@ pub const MAX: &[Row<RuleName, Action>] = &[
             Rule(RuleName::Body),
             Rule(RuleName::TryOf),
         ],
+        then: &[],
     },
     Row {
         at: 0x4000000000000,
@@ -467,6 +440,7 @@ pub const MAX: &[Row<RuleName, Action>] = &[
             Rule(RuleName::StepsMore),
             Rule(RuleName::MaybeElse),
         ],
+        then: &[],
     },
     Row {
         at: 0x1000000000000,
@@ -475,6 +449,7 @@ pub const MAX: &[Row<RuleName, Action>] = &[
             Act(Action::NoClauses),
             Rule(RuleName::FunRest),
         ],
+        then: &[],
     },
 ];
 
@@ -486,10 +461,12 @@ pub const STRINGS: &[Row<RuleName, Action>] = &[
             Act(Action::Join),
             Rule(RuleName::Strings),
         ],
+        then: &[],
     },
     Row {
         at: 0x148f206ffffefab,
         right: &[],
+        then: &[],
     },
 ];
 
@@ -497,10 +474,12 @@ pub const LIST_REST: &[Row<RuleName, Action>] = &[
     Row {
         at: 0x8,
         right: &[Token(1 << classes::RIGHT_BRACKET), Act(Action::List)],
+        then: &[],
     },
     Row {
         at: 0x373df918080055,
         right: &[Rule(RuleName::Expression), Rule(RuleName::ListFirst)],
+        then: &[],
     },
 ];
 
@@ -513,10 +492,12 @@ pub const LIST_FIRST: &[Row<RuleName, Action>] = &[
             Token(1 << classes::RIGHT_BRACKET),
             Act(Action::ListComp),
         ],
+        then: &[],
     },
     Row {
         at: 0x20108,
         right: &[Act(Action::Add), Rule(RuleName::ListMore)],
+        then: &[],
     },
 ];
 
@@ -529,6 +510,7 @@ pub const LIST_MORE: &[Row<RuleName, Action>] = &[
             Act(Action::Add),
             Rule(RuleName::ListMore),
         ],
+        then: &[],
     },
     Row {
         at: 0x20000,
@@ -538,10 +520,12 @@ pub const LIST_MORE: &[Row<RuleName, Action>] = &[
             Token(1 << classes::RIGHT_BRACKET),
             Act(Action::ListTo),
         ],
+        then: &[],
     },
     Row {
         at: 0x8,
         right: &[Token(1 << classes::RIGHT_BRACKET), Act(Action::List)],
+        then: &[],
     },
 ];
 
@@ -549,6 +533,7 @@ pub const TUPLE_REST: &[Row<RuleName, Action>] = &[
     Row {
         at: 0x20,
         right: &[Token(1 << classes::RIGHT_BRACE), Act(Action::Tuple)],
+        then: &[],
     },
     Row {
         at: 0x373df918080055,
@@ -557,6 +542,7 @@ pub const TUPLE_REST: &[Row<RuleName, Action>] = &[
             Act(Action::Add),
             Rule(RuleName::TupleMore),
         ],
+        then: &[],
     },
 ];
 
@@ -569,10 +555,12 @@ pub const TUPLE_MORE: &[Row<RuleName, Action>] = &[
             Act(Action::Add),
             Rule(RuleName::TupleMore),
         ],
+        then: &[],
     },
     Row {
         at: 0x20,
         right: &[Token(1 << classes::RIGHT_BRACE), Act(Action::Tuple)],
+        then: &[],
     },
 ];
 
@@ -580,6 +568,7 @@ pub const ARGS: &[Row<RuleName, Action>] = &[
     Row {
         at: 0x2,
         right: &[Token(1 << classes::RIGHT_PAREN)],
+        then: &[],
     },
     Row {
         at: 0x373df918080055,
@@ -588,6 +577,7 @@ pub const ARGS: &[Row<RuleName, Action>] = &[
             Act(Action::Add),
             Rule(RuleName::ArgsMore),
         ],
+        then: &[],
     },
 ];
 
@@ -600,10 +590,12 @@ pub const ARGS_MORE: &[Row<RuleName, Action>] = &[
             Act(Action::Add),
             Rule(RuleName::ArgsMore),
         ],
+        then: &[],
     },
     Row {
         at: 0x2,
         right: &[Token(1 << classes::RIGHT_PAREN)],
+        then: &[],
     },
 ];
 
@@ -615,6 +607,7 @@ pub const BODY: &[Row<RuleName, Action>] = &[Row {
         Act(Action::Add),
         Rule(RuleName::BodyMore),
     ],
+    then: &[],
 }];
 
 pub const BODY_MORE: &[Row<RuleName, Action>] = &[
@@ -626,9 +619,11 @@ pub const BODY_MORE: &[Row<RuleName, Action>] = &[
             Act(Action::Add),
             Rule(RuleName::BodyMore),
         ],
+        then: &[],
     },
     Row {
         at: 0x108b2000001e000,
         right: &[],
+        then: &[],
     },
 ];

@@ -14,6 +14,7 @@ pub const FUNCTION: &[Row<RuleName, Action>] = &[Row {
         Act(Action::FunctionClause),
         Rule(RuleName::FunctionMore),
     ],
+    then: &[],
 }];
 
 pub const FUNCTION_MORE: &[Row<RuleName, Action>] = &[
@@ -26,10 +27,12 @@ pub const FUNCTION_MORE: &[Row<RuleName, Action>] = &[
             Act(Action::FunctionClause),
             Rule(RuleName::FunctionMore),
         ],
+        then: &[],
     },
     Row {
         at: 0x100000000002000,
         right: &[],
+        then: &[],
     },
 ];
 
@@ -40,6 +43,7 @@ pub const FORM_FUNCTION: &[Row<RuleName, Action>] = &[Row {
         Token(1 << classes::DOT),
         Act(Action::Function),
     ],
+    then: &[],
 }];
 
 pub const FORM_MODULE: &[Row<RuleName, Action>] = &[Row {
@@ -53,6 +57,7 @@ pub const FORM_MODULE: &[Row<RuleName, Action>] = &[Row {
         Token(1 << classes::DOT),
         Act(Action::ModuleName),
     ],
+    then: &[],
 }];
 
 pub const FORM_EXPORT: &[Row<RuleName, Action>] = &[Row {
@@ -67,6 +72,7 @@ pub const FORM_EXPORT: &[Row<RuleName, Action>] = &[Row {
         Token(1 << classes::DOT),
         Act(Action::Export),
     ],
+    then: &[],
 }];
 
 pub const FORM_IMPORT: &[Row<RuleName, Action>] = &[Row {
@@ -83,6 +89,7 @@ pub const FORM_IMPORT: &[Row<RuleName, Action>] = &[Row {
         Token(1 << classes::DOT),
         Act(Action::Import),
     ],
+    then: &[],
 }];
 
 pub const FORM_RECORD: &[Row<RuleName, Action>] = &[Row {
@@ -99,6 +106,7 @@ pub const FORM_RECORD: &[Row<RuleName, Action>] = &[Row {
         Token(1 << classes::DOT),
         Act(Action::RecordOf),
     ],
+    then: &[],
 }];
 
 pub const FORM_DROPPED: &[Row<RuleName, Action>] = &[Row {
@@ -110,6 +118,7 @@ pub const FORM_DROPPED: &[Row<RuleName, Action>] = &[Row {
         Token(1 << classes::DOT),
         Act(Action::Dropped),
     ],
+    then: &[],
 }];
 
 pub const FORM_OTHER: &[Row<RuleName, Action>] = &[Row {
@@ -123,21 +132,25 @@ pub const FORM_OTHER: &[Row<RuleName, Action>] = &[Row {
         Token(1 << classes::DOT),
         Act(Action::Attribute),
     ],
+    then: &[],
 }];
 
 pub const REFERENCES: &[Row<RuleName, Action>] = &[Row {
     at: 0x800000008,
     right: &[Act(Action::NoReferences), Rule(RuleName::ReferencesRest)],
+    then: &[],
 }];
 
 pub const REFERENCES_REST: &[Row<RuleName, Action>] = &[
     Row {
         at: 0x8,
         right: &[Token(1 << classes::RIGHT_BRACKET)],
+        then: &[],
     },
     Row {
         at: 0x800000000,
         right: &[Rule(RuleName::Reference), Rule(RuleName::ReferencesMore)],
+        then: &[],
     },
 ];
 
@@ -149,10 +162,12 @@ pub const REFERENCES_MORE: &[Row<RuleName, Action>] = &[
             Rule(RuleName::Reference),
             Rule(RuleName::ReferencesMore),
         ],
+        then: &[],
     },
     Row {
         at: 0x8,
         right: &[Token(1 << classes::RIGHT_BRACKET)],
+        then: &[],
     },
 ];
 
@@ -164,21 +179,25 @@ pub const REFERENCE: &[Row<RuleName, Action>] = &[Row {
         Token(1 << classes::INT),
         Act(Action::Reference),
     ],
+    then: &[],
 }];
 
 pub const DEFINITIONS: &[Row<RuleName, Action>] = &[Row {
     at: 0x800000020,
     right: &[Act(Action::NoDefinitions), Rule(RuleName::DefinitionsRest)],
+    then: &[],
 }];
 
 pub const DEFINITIONS_REST: &[Row<RuleName, Action>] = &[
     Row {
         at: 0x20,
         right: &[Token(1 << classes::RIGHT_BRACE)],
+        then: &[],
     },
     Row {
         at: 0x800000000,
         right: &[Rule(RuleName::Definition), Rule(RuleName::DefinitionsMore)],
+        then: &[],
     },
 ];
 
@@ -190,16 +209,19 @@ pub const DEFINITIONS_MORE: &[Row<RuleName, Action>] = &[
             Rule(RuleName::Definition),
             Rule(RuleName::DefinitionsMore),
         ],
+        then: &[],
     },
     Row {
         at: 0x20,
         right: &[Token(1 << classes::RIGHT_BRACE)],
+        then: &[],
     },
 ];
 
 pub const DEFINITION: &[Row<RuleName, Action>] = &[Row {
     at: 0x800000000,
     right: &[Token(1 << classes::ATOM), Rule(RuleName::DefinitionRest)],
+    then: &[],
 }];
 
 pub const DEFINITION_REST: &[Row<RuleName, Action>] = &[
@@ -211,10 +233,12 @@ pub const DEFINITION_REST: &[Row<RuleName, Action>] = &[
             Act(Action::DefinitionWith),
             Rule(RuleName::DefinitionType),
         ],
+        then: &[],
     },
     Row {
         at: 0x920,
         right: &[Act(Action::Definition), Rule(RuleName::DefinitionType)],
+        then: &[],
     },
 ];
 
@@ -222,10 +246,12 @@ pub const DEFINITION_TYPE: &[Row<RuleName, Action>] = &[
     Row {
         at: 0x800,
         right: &[Token(1 << classes::DOUBLE_COLON), Rule(RuleName::Types)],
+        then: &[],
     },
     Row {
         at: 0x120,
         right: &[],
+        then: &[],
     },
 ];
 
@@ -233,6 +259,7 @@ pub const TYPES: &[Row<RuleName, Action>] = &[
     Row {
         at: 0xc8c2060057de00,
         right: &[Token(classes::LOOSE_BARE), Rule(RuleName::Types)],
+        then: &[],
     },
     Row {
         at: 0x373df9ffa80000,
@@ -241,6 +268,7 @@ pub const TYPES: &[Row<RuleName, Action>] = &[
             Act(Action::Forget),
             Rule(RuleName::Types),
         ],
+        then: &[],
     },
     Row {
         at: 0x1,
@@ -251,6 +279,7 @@ pub const TYPES: &[Row<RuleName, Action>] = &[
             Token(1 << classes::RIGHT_PAREN),
             Rule(RuleName::Types),
         ],
+        then: &[],
     },
     Row {
         at: 0x4,
@@ -261,6 +290,7 @@ pub const TYPES: &[Row<RuleName, Action>] = &[
             Token(1 << classes::RIGHT_BRACKET),
             Rule(RuleName::Types),
         ],
+        then: &[],
     },
     Row {
         at: 0x10,
@@ -271,6 +301,7 @@ pub const TYPES: &[Row<RuleName, Action>] = &[
             Token(1 << classes::RIGHT_BRACE),
             Rule(RuleName::Types),
         ],
+        then: &[],
     },
     Row {
         at: 0x40,
@@ -281,10 +312,12 @@ pub const TYPES: &[Row<RuleName, Action>] = &[
             Token(1 << classes::RIGHT_BITS),
             Rule(RuleName::Types),
         ],
+        then: &[],
     },
     Row {
         at: 0x120,
         right: &[],
+        then: &[],
     },
 ];
 
@@ -292,10 +325,12 @@ pub const BALANCED: &[Row<RuleName, Action>] = &[
     Row {
         at: 0xc8c2060057de00,
         right: &[Token(classes::LOOSE_BARE), Rule(RuleName::Balanced)],
+        then: &[],
     },
     Row {
         at: 0x100,
         right: &[Token(1 << classes::COMMA), Rule(RuleName::Balanced)],
+        then: &[],
     },
     Row {
         at: 0x373df9ffa80000,
@@ -304,6 +339,7 @@ pub const BALANCED: &[Row<RuleName, Action>] = &[
             Act(Action::Forget),
             Rule(RuleName::Balanced),
         ],
+        then: &[],
     },
     Row {
         at: 0x1,
@@ -314,6 +350,7 @@ pub const BALANCED: &[Row<RuleName, Action>] = &[
             Token(1 << classes::RIGHT_PAREN),
             Rule(RuleName::Balanced),
         ],
+        then: &[],
     },
     Row {
         at: 0x4,
@@ -324,6 +361,7 @@ pub const BALANCED: &[Row<RuleName, Action>] = &[
             Token(1 << classes::RIGHT_BRACKET),
             Rule(RuleName::Balanced),
         ],
+        then: &[],
     },
     Row {
         at: 0x10,
@@ -334,6 +372,7 @@ pub const BALANCED: &[Row<RuleName, Action>] = &[
             Token(1 << classes::RIGHT_BRACE),
             Rule(RuleName::Balanced),
         ],
+        then: &[],
     },
     Row {
         at: 0x40,
@@ -344,10 +383,12 @@ pub const BALANCED: &[Row<RuleName, Action>] = &[
             Token(1 << classes::RIGHT_BITS),
             Rule(RuleName::Balanced),
         ],
+        then: &[],
     },
     Row {
         at: 0x20aa,
         right: &[],
+        then: &[],
     },
 ];
 
@@ -360,14 +401,17 @@ pub const CONSTANT: &[Row<RuleName, Action>] = &[
             Act(Action::Leaf),
             Act(Action::Unary),
         ],
+        then: &[],
     },
     Row {
         at: 0x4000000000,
         right: &[Token(1 << classes::INT), Act(Action::Leaf)],
+        then: &[],
     },
     Row {
         at: 0x8000000000,
         right: &[Token(1 << classes::CHAR), Act(Action::Leaf)],
+        then: &[],
     },
     Row {
         at: 0x10000000000,
@@ -376,10 +420,12 @@ pub const CONSTANT: &[Row<RuleName, Action>] = &[
             Act(Action::Leaf),
             Rule(RuleName::Strings),
         ],
+        then: &[],
     },
     Row {
         at: 0x800000000,
         right: &[Token(1 << classes::ATOM), Rule(RuleName::ConstantAtom)],
+        then: &[],
     },
     Row {
         at: 0x4,
@@ -388,6 +434,7 @@ pub const CONSTANT: &[Row<RuleName, Action>] = &[
             Act(Action::None),
             Rule(RuleName::ConstantList),
         ],
+        then: &[],
     },
     Row {
         at: 0x10,
@@ -396,6 +443,7 @@ pub const CONSTANT: &[Row<RuleName, Action>] = &[
             Act(Action::None),
             Rule(RuleName::ConstantTuple),
         ],
+        then: &[],
     },
     Row {
         at: 0x40,
@@ -404,6 +452,7 @@ pub const CONSTANT: &[Row<RuleName, Action>] = &[
             Act(Action::NoSegments),
             Rule(RuleName::ConstantBin),
         ],
+        then: &[],
     },
 ];
 
@@ -415,10 +464,12 @@ pub const CONSTANT_ATOM: &[Row<RuleName, Action>] = &[
             Token(1 << classes::INT),
             Act(Action::NameArity),
         ],
+        then: &[],
     },
     Row {
         at: 0x2012a,
         right: &[Act(Action::Leaf)],
+        then: &[],
     },
 ];
 
@@ -426,6 +477,7 @@ pub const CONSTANT_LIST: &[Row<RuleName, Action>] = &[
     Row {
         at: 0x8,
         right: &[Token(1 << classes::RIGHT_BRACKET), Act(Action::List)],
+        then: &[],
     },
     Row {
         at: 0x1c818000054,
@@ -434,6 +486,7 @@ pub const CONSTANT_LIST: &[Row<RuleName, Action>] = &[
             Act(Action::Add),
             Rule(RuleName::ConstantListMore),
         ],
+        then: &[],
     },
 ];
 
@@ -446,6 +499,7 @@ pub const CONSTANT_LIST_MORE: &[Row<RuleName, Action>] = &[
             Act(Action::Add),
             Rule(RuleName::ConstantListMore),
         ],
+        then: &[],
     },
     Row {
         at: 0x20000,
@@ -455,10 +509,12 @@ pub const CONSTANT_LIST_MORE: &[Row<RuleName, Action>] = &[
             Token(1 << classes::RIGHT_BRACKET),
             Act(Action::ListTo),
         ],
+        then: &[],
     },
     Row {
         at: 0x8,
         right: &[Token(1 << classes::RIGHT_BRACKET), Act(Action::List)],
+        then: &[],
     },
 ];
 
@@ -466,6 +522,7 @@ pub const CONSTANT_TUPLE: &[Row<RuleName, Action>] = &[
     Row {
         at: 0x20,
         right: &[Token(1 << classes::RIGHT_BRACE), Act(Action::Tuple)],
+        then: &[],
     },
     Row {
         at: 0x1c818000054,
@@ -474,6 +531,7 @@ pub const CONSTANT_TUPLE: &[Row<RuleName, Action>] = &[
             Act(Action::Add),
             Rule(RuleName::ConstantTupleMore),
         ],
+        then: &[],
     },
 ];
 
@@ -486,10 +544,12 @@ pub const CONSTANT_TUPLE_MORE: &[Row<RuleName, Action>] = &[
             Act(Action::Add),
             Rule(RuleName::ConstantTupleMore),
         ],
+        then: &[],
     },
     Row {
         at: 0x20,
         right: &[Token(1 << classes::RIGHT_BRACE), Act(Action::Tuple)],
+        then: &[],
     },
 ];
 
@@ -497,6 +557,7 @@ pub const CONSTANT_BIN: &[Row<RuleName, Action>] = &[
     Row {
         at: 0x80,
         right: &[Token(1 << classes::RIGHT_BITS), Act(Action::Bin)],
+        then: &[],
     },
     Row {
         at: 0x14000000000,
@@ -504,6 +565,7 @@ pub const CONSTANT_BIN: &[Row<RuleName, Action>] = &[
             Rule(RuleName::ConstantSegment),
             Rule(RuleName::ConstantBinMore),
         ],
+        then: &[],
     },
 ];
 
@@ -515,10 +577,12 @@ pub const CONSTANT_BIN_MORE: &[Row<RuleName, Action>] = &[
             Rule(RuleName::ConstantSegment),
             Rule(RuleName::ConstantBinMore),
         ],
+        then: &[],
     },
     Row {
         at: 0x80,
         right: &[Token(1 << classes::RIGHT_BITS), Act(Action::Bin)],
+        then: &[],
     },
 ];
 
@@ -531,6 +595,7 @@ pub const CONSTANT_SEGMENT: &[Row<RuleName, Action>] = &[
             Act(Action::Segment),
             Act(Action::AddSegment),
         ],
+        then: &[],
     },
     Row {
         at: 0x10000000000,
@@ -541,5 +606,6 @@ pub const CONSTANT_SEGMENT: &[Row<RuleName, Action>] = &[
             Act(Action::Segment),
             Act(Action::AddSegment),
         ],
+        then: &[],
     },
 ];

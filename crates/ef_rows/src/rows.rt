@@ -1,9 +1,13 @@
 // The rows of each rule of the grammar.
 ghost use Rattle.std.specs.Prelude.{◌≡◌, map};
 ghost use Rattle.ef_grammar.specs.Shown.{row};
+ghost use Rattle.ef_grammar.specs.Table.{opened_rows};
 ghost use Rattle.ef_rows.specs.Tables as tables;
 
-use crate::{construct_rows as construct, expression_rows as expression, form_rows as form};
+use crate::{
+    construct_rows as construct, expression_rows as expression, form_rows as form,
+    opened_rows as opened,
+};
 use ef_grammar::Row;
 
 /// A rule of the grammar.
@@ -205,27 +209,27 @@ pub enum Action {
     NameArity,
 }
 
-/// The right sides of the rule.
+/// The right sides of the rule, those of some rules opened ahead.
 pub fn rows(rule: RuleName) -> &'static [Row<RuleName, Action>]
-    ensures { map row result.now ≡ tables.rows rule }
+    ensures { map row result.now ≡ opened_rows tables.table rule }
 {
     match rule {
-        RuleName::Expression => expression::EXPRESSION,
-        RuleName::Match => expression::MATCH,
+        RuleName::Expression => opened::EXPRESSION,
+        RuleName::Match => opened::MATCH,
         RuleName::MatchTail => expression::MATCH_TAIL,
-        RuleName::Orelse => expression::ORELSE,
+        RuleName::Orelse => opened::ORELSE,
         RuleName::OrelseTail => expression::ORELSE_TAIL,
-        RuleName::Andalso => expression::ANDALSO,
+        RuleName::Andalso => opened::ANDALSO,
         RuleName::AndalsoTail => expression::ANDALSO_TAIL,
-        RuleName::Cmp => expression::CMP,
+        RuleName::Cmp => opened::CMP,
         RuleName::CmpTail => expression::CMP_TAIL,
-        RuleName::List => expression::LIST,
+        RuleName::List => opened::LIST,
         RuleName::ListTail => expression::LIST_TAIL,
-        RuleName::Add => expression::ADD,
+        RuleName::Add => opened::ADD,
         RuleName::AddTail => expression::ADD_TAIL,
-        RuleName::Mul => expression::MUL,
+        RuleName::Mul => opened::MUL,
         RuleName::MulTail => expression::MUL_TAIL,
-        RuleName::Unary => expression::UNARY,
+        RuleName::Unary => opened::UNARY,
         RuleName::MaxTail => expression::MAX_TAIL,
         RuleName::RecordMore => expression::RECORD_MORE,
         RuleName::RecordNew => expression::RECORD_NEW,

@@ -9,8 +9,8 @@ abbrev pub invariant-moves : goal.invariant-moves
 invariant-moves g l =
     let t = g.G.Grammar in
     let of = t.grammar l.fn.language in
-    Fits t.table (symbols l.symbols.items) (one (of.look []))
-    × Alike of l.class (symbols l.fn.symbols.items) (t.value l.fn.state) (symbols l.symbols.items) (t.value l.state)
+    Fits t.table (symbols l.symbols) (one (of.look []))
+    × Alike of l.class (symbols l.fn.symbols) (t.value l.fn.state) (symbols l.symbols) (t.value l.state)
 
 abbrev pub decreases-moves : goal.decreases-moves
-decreases-moves g l = weight g.G.Grammar.table (symbols l.symbols.items)
+decreases-moves g l = weight g.G.Grammar.table (symbols l.symbols)

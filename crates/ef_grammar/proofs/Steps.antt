@@ -4,7 +4,7 @@ use Rattle.ef_grammar.specs.Grammar.{Symbol, Token, Rule, Act, Grammar, Among, B
 use Rattle.ef_grammar.specs.Table.{Table, chosen, rights, IsSound}
 use Rattle.ef_grammar.specs.Reads.{Fits, Ends, Alike, Fails, IsNext}
 use Rattle.ef_grammar.specs.declared.moves.Next.TheVariants as next_is
-use Rattle.ef_grammar.proofs.Choice.{ends, choice_is, chosen_among, chosen_fits}
+use Rattle.ef_grammar.proofs.Choice.{ends, choice_is, chosen_among}
 
 not_nothing : {X : Type 0} (x : X) (xs : List X) → x ∷ xs ≡ [] → ⊥
 not_nothing x xs e = cc

@@ -1,4 +1,4 @@
-use Rattle.std.proofs.Common.{◌≡◌, ◌∷◌, ◌++◌, ◌<◌, Some, None, true, false, map, arith, subst, sym}
+use Rattle.std.proofs.Common.{◌≡◌, ◌∷◌, ◌++◌, ◌<◌, Some, None, true, false, arith, subst, sym}
 use Rattle.std.proofs.lemmas.Grind.{common_steps}
 use Rattle.ef_grammar.specs.Grammar.{Token, Rule, Act, has}
 use Rattle.ef_grammar.specs.Table.{chosen, opened_rows, weight}

@@ -60,6 +60,9 @@ pub fn put<'a, R: Copy, A: Copy>(
 ) -> Result<(), AllocError>
     ensures { IfOk result (λ done. shown symbols.new ≡ (map symbol right.now ++ map symbol then.now) ++ shown symbols.old) }
 {
+    if right.is_empty() && then.is_empty() {
+        return Ok(());
+    }
     if !symbols.front.is_empty() {
         symbols.behind.push(Piece {
             symbols: symbols.front,

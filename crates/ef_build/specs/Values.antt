@@ -1,5 +1,5 @@
 -- What has been read of tokens: a stack of values, and what is noted beside it.
-use Rattle.std.specs.Prelude.{ℕ, ℤ, Bool, List, Option, map, reverse, Vec}
+use Rattle.std.specs.Prelude.{ℕ, ℤ, Bool, List, Option, map, reverse, Vec, Box}
 use Rattle.std.specs.Option.{option_map}
 use Rattle.std.specs.declared.alloc.Global.{Global}
 use Rattle.ef_base.specs.declared.fault.Fault.{Fault}
@@ -7,7 +7,6 @@ use Rattle.ef_base.specs.declared.fault.Place.{Place}
 use Rattle.ef_base.specs.declared.name.Name.{Name}
 use Rattle.ef_forms.specs.declared.expr.ClassPart.{ClassPart}
 use Rattle.ef_forms.specs.declared.expr.Expr.{Expr}
-use Rattle.ef_forms.specs.declared.expr.TypeWord.{TypeWord}
 use Rattle.ef_forms.specs.declared.form.FunctionRef.{FunctionRef}
 use Rattle.ef_forms.specs.Tree.{Tree, FieldTree, FormTree}
 use Rattle.ef_forms.specs.Plain.{ClauseTree, plain, plain_clause, plain_field_def, plain_form}
@@ -154,13 +153,13 @@ abbrev pub clauses_of : TheClauses → Clauses
 clauses_of x = record { clauses = map plain_clause x.clauses.items; first = x.first; nest = x.nest }
 
 abbrev pub caught_of : TheCaught → Caught
-caught_of x = record { place = x.place; class = x.class; pattern = plain x.pattern; trace = x.trace; nest = x.nest }
+caught_of x = record { place = x.place; class = x.class; pattern = plain x.pattern.value; trace = x.trace; nest = x.nest }
 
 abbrev pub catches_of : TheCatches → Catches
 catches_of x = record { clauses = map catch_part x.clauses.items; nest = x.nest }
 
 abbrev pub open_segment_of : TheOpenSegment → OpenSegment
-open_segment_of x = record { part = record { place = x.place; value = plain x.value; size = option_map plain x.size; types = x.types.items }; nest = x.nest }
+open_segment_of x = record { part = record { place = x.place; value = plain x.value.value; size = option_map (λ (b : Box Expr Global). plain b.value) x.size; types = x.types.items }; nest = x.nest }
 
 abbrev pub segments_of : TheSegments → Segments
 segments_of x = record { segments = map segment_part x.segments.items; nest = x.nest }

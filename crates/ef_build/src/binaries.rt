@@ -50,7 +50,7 @@ pub fn segment(alloc: Global, read: &mut Read) -> Result<bool, AllocError>
     };
     read.put(Value::OpenSegment(OpenSegment {
         place: value.start,
-        value: value.expr,
+        value: Box::new(alloc, value.expr)?,
         size: None,
         types: Vec::new(alloc),
         nest: value.nest,
@@ -59,7 +59,7 @@ pub fn segment(alloc: Global, read: &mut Read) -> Result<bool, AllocError>
 
 /// The size of the segment.
 #[tactic(auto, using(crate::proofs::Tops::laws, crate::proofs::Shapes::laws))]
-pub fn size(read: &mut Read) -> Result<bool, AllocError>
+pub fn size(alloc: Global, read: &mut Read) -> Result<bool, AllocError>
     ensures { IfOk result (λ ok. acted ok (shown read.new) ≡ c.size (shown read.old)) }
 {
     let Some(size) = read.pop_operand() else {
@@ -70,7 +70,7 @@ pub fn size(read: &mut Read) -> Result<bool, AllocError>
         return Ok(false);
     };
     segment.nest = segment.nest.max(size.nest);
-    segment.size = Some(size.expr);
+    segment.size = Some(Box::new(alloc, size.expr)?);
     read.put(Value::OpenSegment(segment))
 }
 
@@ -132,6 +132,16 @@ pub fn word_number(read: &mut Read) -> Result<bool, AllocError>
     typed(read, segment, TypeWord { name, number })
 }
 
+// What stands in the box, if there is one.
+fn unboxed(held: Option<Box<Expr>>) -> Option<Expr>
+    ensures { option_map plain result ≡ option_map (λ b. plain b.value) held }
+{
+    match held {
+        Some(held) => Some(Box::into_inner(held)),
+        None => None,
+    }
+}
+
 /// One more segment.
 #[tactic(auto, using(crate::proofs::Tops::laws, crate::proofs::Shapes::laws))]
 pub fn add_segment(read: &mut Read) -> Result<bool, AllocError>
@@ -154,8 +164,8 @@ pub fn add_segment(read: &mut Read) -> Result<bool, AllocError>
     } = last;
     segments.segments.push(Segment {
         place,
-        value,
-        size,
+        value: Box::into_inner(value),
+        size: unboxed(size),
         types,
     })?;
     segments.nest = nest;

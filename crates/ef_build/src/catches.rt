@@ -1,7 +1,6 @@
 // Clauses that catch, and the place of their stack trace.
 ghost use Rattle.std.specs.Prelude.{◌≡◌, IfOk};
 ghost use Rattle.ef_grammar.specs.Shown.{acted};
-ghost use Rattle.std.specs.Prelude.{Some, None, cond};
 ghost use Rattle.ef_build.specs.Constructs as c;
 ghost use Rattle.ef_build.specs.Expressions as e;
 ghost use Rattle.ef_build.specs.Values.{shown, stack, value};
@@ -100,7 +99,7 @@ pub fn class(read: &mut Read) -> Result<bool, AllocError>
 
 /// The pattern is read, and with it the stack trace.
 #[tactic(auto, using(crate::proofs::Tops::laws, crate::proofs::Shapes::laws))]
-pub fn caught_pattern(read: &mut Read) -> Result<bool, AllocError>
+pub fn caught_pattern(alloc: Global, read: &mut Read) -> Result<bool, AllocError>
     ensures { IfOk result (λ ok. acted ok (shown read.new) ≡ c.caught_pattern (shown read.old)) }
 {
     let Some(pattern) = read.pop_operand() else {
@@ -115,7 +114,7 @@ pub fn caught_pattern(read: &mut Read) -> Result<bool, AllocError>
     read.put(Value::Caught(Caught {
         place: mark.place.unwrap_or(pattern.start),
         class: mark.class,
-        pattern: pattern.expr,
+        pattern: Box::new(alloc, pattern.expr)?,
         trace,
         nest: pattern.nest,
     }))
@@ -155,7 +154,7 @@ pub fn catch_clause(read: &mut Read) -> Result<bool, AllocError>
     catches.clauses.push(CatchClause {
         place,
         class,
-        pattern,
+        pattern: Box::into_inner(pattern),
         trace,
         guard: guard.tests,
         body: body.exprs,

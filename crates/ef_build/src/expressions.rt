@@ -1,5 +1,5 @@
 // Expressions of one or a few expressions.
-ghost use Rattle.std.specs.Prelude.{◌≡◌, IfOk};
+ghost use Rattle.std.specs.Prelude.{◌≡◌, [], ◌∷◌, ◌++◌, IfOk, OnOk};
 ghost use Rattle.ef_grammar.specs.Shown.{acted};
 ghost use Rattle.ef_build.specs.Expressions as e;
 ghost use Rattle.ef_build.specs.Values.{shown};
@@ -223,6 +223,18 @@ pub fn none(alloc: Global, read: &mut Read) -> Result<bool, AllocError>
     }))
 }
 
+// Puts one more element at the end. A vector of one element has no room for more.
+fn put_last(exprs: &mut Vec<Expr>, last: Expr) -> Result<(), AllocError>
+    ensures { OnOk result (exprs.new.items ≡ exprs.old.items ++ last ∷ []) }
+{
+    if exprs.is_empty() && exprs.reserve_exact(1).is_err() {
+        drop(last);
+        return Err(AllocError);
+    }
+    exprs.push(last)?;
+    Ok(())
+}
+
 /// One more expression.
 #[tactic(auto, using(crate::proofs::Tops::laws, crate::proofs::Shapes::laws))]
 pub fn add(read: &mut Read) -> Result<bool, AllocError>
@@ -235,7 +247,7 @@ pub fn add(read: &mut Read) -> Result<bool, AllocError>
         drop(last);
         return Ok(false);
     };
-    items.exprs.push(last.expr)?;
+    put_last(&mut items.exprs, last.expr)?;
     items.start = items.start.or(Some(last.start));
     items.nest = items.nest.max(last.nest);
     read.put(Value::Items(items))

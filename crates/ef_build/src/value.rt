@@ -88,7 +88,7 @@ pub struct Mark {
 pub struct Caught {
     pub place: Place,
     pub class: ClassPart,
-    pub pattern: Expr,
+    pub pattern: Box<Expr>,
     pub trace: Option<Name>,
     pub nest: u32,
 }
@@ -104,8 +104,8 @@ pub struct Catches {
 #[derive(Drop)]
 pub struct OpenSegment {
     pub place: Place,
-    pub value: Expr,
-    pub size: Option<Expr>,
+    pub value: Box<Expr>,
+    pub size: Option<Box<Expr>>,
     pub types: Vec<TypeWord>,
     pub nest: u32,
 }

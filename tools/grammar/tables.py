@@ -25,7 +25,7 @@ is the class of the end, `starts` has the rules that whole inputs begin with, an
 ahead, until none of them begins with a rule. A line `# ==== NAME` says that the rules
 behind it have their rows in src/NAME_rows.rt. Says where two rows are chosen at one class.
 With the NAME of a crate and its FOLDER, writes src/classes.rt, src/rows.rt, a file of rows for each line `# ====`, those
-that are opened in src/opened_rows.rt and their shared parts in src/opened_parts.rt, specs/Classes.antt, specs/Rules.antt, specs/Tables.antt and specs/Sound.antt there. What is written is proved, so nothing
+that are opened in src/opened_rows.rt and their shared parts in src/parts.rt, specs/Classes.antt, specs/Rules.antt, specs/Tables.antt and specs/Sound.antt there. What is written is proved, so nothing
 rests on this script.
 """
 import os
@@ -168,6 +168,13 @@ class Table:
             rows, levels = [new for row in rows for new in self.open_row(row)], levels + 1
         return rows, levels
 
+    def passed(self, symbols):
+        """The classes at which they all come to nothing, rules as they are."""
+        whole = -1 if symbols else 0
+        for _, rule in symbols:
+            whole &= sum(at for at, right in zip(self.at[rule], self.grammar.rows[rule]) if not right)
+        return whole
+
     def first_rule(self, row):
         _, (name, k), _ = row
         right = self.grammar.rows[name][k]
@@ -204,8 +211,8 @@ def rows_code(g, crate):
         return f"/// {doc}\n#[derive(Clone, Copy)]\npub enum {name} {{\n{body}}}\n\n"
 
     out = "// The rows of each rule of the grammar.\n"
-    out += "ghost use Rattle.std.specs.Prelude.{◌≡◌, map};\n"
-    out += "ghost use Rattle.ef_grammar.specs.Shown.{row};\n"
+    out += "ghost use Rattle.std.specs.Prelude.{◌≡◌, map, true};\n"
+    out += "ghost use Rattle.ef_grammar.specs.Shown.{pass_all, row};\n"
     out += "ghost use Rattle.ef_grammar.specs.Table.{opened_rows};\n"
     out += f"ghost use Rattle.{crate}.specs.Tables as tables;\n\n"
     out += "".join(f"use crate::{part}_rows as {part};\n" for part in [*g.parts, *["opened"] * bool(g.opened)])
@@ -214,7 +221,8 @@ def rows_code(g, crate):
     out += enum("What builds from what has been read.", "Action", g.actions)
     out += "/// The right sides of the rule, those of some rules opened ahead.\n"
     out += "pub fn rows(rule: RuleName) -> &'static [Row<RuleName, Action>]\n"
-    out += "    ensures { map row result.now ≡ opened_rows tables.table rule }\n{\n    match rule {\n"
+    out += "    ensures rows { map row result.now ≡ opened_rows tables.table rule }\n"
+    out += "    ensures passed { pass_all tables.table result.now ≡ true }\n{\n    match rule {\n"
     for part, names in g.parts.items():
         for name in names:
             out += f"        RuleName::{camel(name)} => {'opened' if name in g.opened else part}::{upper(name)},\n"
@@ -231,9 +239,10 @@ def symbols_code(g, symbols):
     return ", ".join(symbol_code(g, *one) for one in symbols)
 
 
-def uses_code(symbols):
-    out = "use crate::classes;\nuse crate::rows::{Action, RuleName};\n"
-    return out + ("use ef_grammar::Symbol;\n" if symbols else "use ef_grammar::Row;\n") + "use ef_grammar::Symbol::{Act, Rule, Token};\n\n"
+def uses_code(parts):
+    out = "use crate::classes;\n" + ("" if parts else "use crate::parts::NOTHING;\n") + "use crate::rows::{Action, RuleName};\n"
+    out += "use ef_grammar::Symbol::{Act, Rule, Token};\n"
+    return out + ("use ef_grammar::{Piece, Symbol};\n\n" if parts else "use ef_grammar::Row;\n\n")
 
 
 def part_code(g, table, part):
@@ -241,21 +250,25 @@ def part_code(g, table, part):
     for name in (name for name in g.parts[part] if name not in g.opened):
         out += f"pub const {upper(name)}: &[Row<RuleName, Action>] = &[\n"
         for at, right in zip(table.at[name], g.rows[name]):
-            out += f"    Row {{\n        at: 0x{at:x},\n        right: &[{symbols_code(g, right)}],\n        then: &[],\n    }},\n"
+            out += f"    Row {{\n        at: 0x{at:x},\n        right: &[{symbols_code(g, right)}],\n        then: NOTHING,\n    }},\n"
         out += "];\n\n"
     return out.rstrip() + "\n"
 
 
 def opened_code(g, table):
-    """The text of src/opened_parts.rt, and that of src/opened_rows.rt."""
-    parts = "// Parts that rows share which are opened ahead.\n\n" + uses_code(True)
+    """The text of src/parts.rt, and that of src/opened_rows.rt."""
+    parts = "// Parts that rows share.\n\n" + uses_code(True)
+    parts += "pub const NOTHING: Piece<'static, RuleName, Action> = Piece {\n    symbols: &[],\n    pass: 0,\n};\n\n"
     rows = "// Rows that are opened ahead: what begins with a rule begins with that rule's row.\n\n"
-    rows += "use crate::opened_parts as part;\nuse crate::rows::{Action, RuleName};\nuse ef_grammar::Row;\n\n"
+    rows += "use crate::parts as part;\nuse crate::rows::{Action, RuleName};\nuse ef_grammar::Row;\n\n"
     seen = {}
 
-    def shared(name, symbols):
+    def shared(name, symbols, behind=False):
         nonlocal parts
-        if name not in seen:
+        if name not in seen and behind:
+            parts += f"pub const {name}: Piece<'static, RuleName, Action> = Piece {{\n    symbols: &[{symbols_code(g, symbols)}],\n"
+            parts += f"    pass: 0x{table.passed(symbols):x},\n}};\n\n"
+        elif name not in seen:
             parts += f"pub const {name}: &[Symbol<RuleName, Action>] = &[{symbols_code(g, symbols)}];\n\n"
         assert seen.setdefault(name, symbols) == symbols
         return f"part::{name}"
@@ -264,7 +277,7 @@ def opened_code(g, table):
         rows += f"pub const {upper(name)}: &[Row<RuleName, Action>] = &[\n"
         for at, (rule, k), then in table.open(name)[0]:
             right = shared(f"{upper(rule)}_{k + 1}", g.rows[rule][k])
-            behind = shared(f"BEHIND_{upper(rule)}_IN_{upper(name)}", then) if then else "&[]"
+            behind = shared(f"BEHIND_{upper(rule)}_IN_{upper(name)}", then, True) if then else "part::NOTHING"
             rows += f"    Row {{\n        at: 0x{at:x},\n        right: {right},\n        then: {behind},\n    }},\n"
         rows += "];\n\n"
     return parts.rstrip() + "\n", rows.rstrip() + "\n"
@@ -360,8 +373,8 @@ def main(path, crate=None, folder=None):
     }
     for part in g.parts:
         files[f"src/{part}_rows.rt"] = lambda part=part: part_code(g, table, part)
+    files["src/parts.rt"] = lambda: opened_code(g, table)[0]
     if g.opened:
-        files["src/opened_parts.rt"] = lambda: opened_code(g, table)[0]
         files["src/opened_rows.rt"] = lambda: opened_code(g, table)[1]
     for name, text in files.items() if folder else ():
         os.makedirs(os.path.dirname(os.path.join(folder, name)), exist_ok=True)

@@ -1,5 +1,5 @@
 // The stack of values: taking the last one, and putting one there.
-ghost use Rattle.std.specs.Prelude.{◌≡◌, IfOk, map};
+ghost use Rattle.std.specs.Prelude.{◌≡◌, [], IfOk, map};
 ghost use Rattle.ef_forms.specs.Plain.{plain_field_def, plain_form, plain_node};
 ghost use Rattle.std.specs.Option.{option_map};
 ghost use Rattle.ef_grammar.specs.Shown.{acted};
@@ -31,6 +31,16 @@ pub struct Read {
     pub deep: bool,
 }
 
+// A stack with room for the values of most forms, where memory is there for it.
+fn room(alloc: Global) -> Vec<Value>
+    ensures { result.items ≡ [] }
+{
+    match Vec::with_capacity(alloc, 24) {
+        Ok(values) => values,
+        Err(_) => Vec::new(alloc),
+    }
+}
+
 #[tactic(auto, using(crate::proofs::Tops::laws, crate::proofs::Shapes::laws))]
 impl Read {
     /// Nothing yet.
@@ -38,7 +48,7 @@ impl Read {
         ensures { shown result ≡ s.nothing }
     {
         Read {
-            values: Vec::new(alloc),
+            values: room(alloc),
             faults: Vec::new(alloc),
             trace: None,
             deep: false,

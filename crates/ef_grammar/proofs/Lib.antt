@@ -2,6 +2,7 @@ mod Sets
 mod Choice
 mod Steps
 mod Tops
+mod Passing
 mod Opened
 mod Runs
 pub mod Alike

@@ -1,6 +1,6 @@
 -- Sets of classes as numbers.
 use Rattle.std.proofs.Common.{◌≡◌, ℕ, ◌^◌, min, max, Bool, true, false, eqb, refl, sym, ap, subst, ◌∙◌, arith}
-use Rattle.std.specs.Prelude.{bit_and, bit_or}
+use Rattle.std.specs.Prelude.{bit_and, bit_or, nat_eq}
 use Rattle.std.specs.Int.{bit_at}
 use Rattle.std.proofs.lemmas.Nat.Bits.{bit_at_and, bit_at_or, bit_at-lt, bit_at-zero, bit_at-pow_same, bit_at-pow_other}
 use Rattle.std.proofs.lemmas.Bool.{eqb-true, eq-eqb}
@@ -35,6 +35,19 @@ pub other_side : (s t i : ℕ) → has t i ≡ true → has (bit_or s t) i ≡ t
 other_side s t i h =
     let either : bit_at (bit_or s t) i ≡ max (bit_at s i) (bit_at t i) = bit_at_or s t i in
     eq-eqb (bit_at (bit_or s t) i) 1 (omega (arith, either, eqb-true (bit_at t i) 1 h, bit_at-lt s i))
+
+pub either_has : (s t i : ℕ) → has (bit_or s t) i ≡ true → (has s i ≡ true → ⊥) → has t i ≡ true
+either_has s t i h n = by (has s i) refl
+  where
+    by : (b : Bool) → has s i ≡ b → has t i ≡ true
+    by true e = absurd (n e)
+    by false e = eq-eqb (bit_at t i) 1 (omega (arith, bit_at_or s t i, eqb-true (bit_at (bit_or s t) i) 1 h, bit_at-lt s i, bit_at-lt t i, not_one (bit_at s i) e))
+      where
+        not_one : (k : ℕ) → nat_eq k 1 ≡ false → k ≡ 1 → ⊥
+        not_one k p q = unlike (nat_eq k 1) (eq-eqb k 1 q) p
+          where
+            unlike : (b : Bool) → b ≡ true → b ≡ false → ⊥
+            unlike b x y = cc
 
 pub own_is : (i : ℕ) → has (one i) i ≡ true
 own_is i = eq-eqb (bit_at (2 ^ i) i) 1 (bit_at-pow_same i)

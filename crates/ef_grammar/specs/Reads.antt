@@ -1,7 +1,7 @@
 -- What the parser keeps true of its stacks.
 use Rattle.std.specs.Prelude.{◌≡◌, ℕ, ◌↔◌, List, [], ◌∷◌, ◌++◌, take, drop, true}
 use Rattle.ef_grammar.specs.Grammar.{Symbol, Token, Rule, Act, Grammar, Begins, has, one}
-use Rattle.ef_grammar.specs.Table.{Table, leading}
+use Rattle.ef_grammar.specs.Table.{Table, leading, nothing_at}
 use Rattle.ef_grammar.specs.Answers.{Same}
 use Rattle.ef_grammar.specs.declared.moves.Next.{Next}
 use Rattle.ef_grammar.specs.declared.moves.Next.TheVariants as next_is
@@ -16,6 +16,17 @@ Fits t [] s = Unit {0}
 Fits t (Token c ∷ α) s = Fits t α s
 Fits t (Rule n ∷ α) s = Within (leading t α s) (t.behind n) × Fits t α s
 Fits t (Act a ∷ α) s = Fits t α s
+
+module _ {R A : Type 0} (t : Table R A) where
+  -- before a token of this class they all come to nothing
+  abbrev pub Gone : ℕ → List (Symbol R A) → Type 0
+  Gone c [] = Unit {0}
+  Gone c (Rule n ∷ α) = (has (nothing_at t (t.rows n)) c ≡ true) × Gone c α
+  Gone c (x ∷ α) = ⊥
+
+  -- the first of them are passed over, which come to nothing
+  abbrev pub Over : ℕ → List (Symbol R A) → List (Symbol R A) → Type 0
+  Over c α β = (δ : List (Symbol R A)) × Gone c δ × (α ≡ δ ++ β)
 
 module _ {T V R A : Type 0} (g : Grammar T V R A) where
   -- a token is to come, or all is spelled and no token is left

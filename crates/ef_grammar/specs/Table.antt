@@ -94,3 +94,21 @@ module _ {R A : Type 0} (t : Table R A) where
 
   abbrev pub opened_rows : R → List (Row R A)
   opened_rows n = opened (t.ahead n) (t.rows n)
+
+  -- ---- symbols that come to nothing
+
+  -- the classes of a right side, if it is empty
+  abbrev pub of_nothing : ℕ → List (Symbol R A) → ℕ
+  of_nothing s [] = s
+  of_nothing s (x ∷ α) = 0
+
+  -- the classes at which an empty right side is chosen
+  abbrev pub nothing_at : List (Row R A) → ℕ
+  nothing_at [] = 0
+  nothing_at (r ∷ rs) = bit_or (of_nothing r.at r.right) (nothing_at rs)
+
+  -- at each of these classes they all come to nothing
+  abbrev pub vanish : ℕ → List (Symbol R A) → Bool
+  vanish s [] = true
+  vanish s (Rule n ∷ α) = within s (nothing_at (t.rows n)) && vanish s α
+  vanish s (x ∷ α) = nat_eq s 0 && vanish s α

@@ -1,8 +1,8 @@
 // What a grammar gives to its parser.
-ghost use Rattle.std.specs.Prelude.{◌≡◌, ◌<◌, ◌≤◌, IfOk, length, drop, map};
+ghost use Rattle.std.specs.Prelude.{◌≡◌, ◌<◌, ◌≤◌, IfOk, length, drop, map, true};
 ghost use Rattle.ef_grammar.specs.Grammar as g;
 ghost use Rattle.ef_grammar.specs.Table as t;
-ghost use Rattle.ef_grammar.specs.Shown.{acted, row};
+ghost use Rattle.ef_grammar.specs.Shown.{acted, pass_all, row};
 
 use crate::row::Row;
 use std::alloc::{AllocError, Global};
@@ -52,7 +52,8 @@ pub trait Grammar {
 
     /// The right sides of the rule, opened ahead.
     fn rows(&self, rule: Self::Rule) -> &'static [Row<Self::Rule, Self::Action>]
-        ensures { map row result.now ≡ t.opened_rows table rule };
+        ensures rows { map row result.now ≡ t.opened_rows table rule }
+        ensures passed { pass_all table result.now ≡ true };
 
     ghost sound: { t.IsSound table };
 

@@ -9,4 +9,4 @@ mod symbols;
 
 pub use given::Grammar;
 pub use machine::{Outcome, parse};
-pub use row::{Row, Symbol};
+pub use row::{Piece, Row, Symbol};

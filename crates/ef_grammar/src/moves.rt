@@ -1,13 +1,13 @@
 // The moves of the parser before a token is taken.
-ghost use Rattle.std.specs.Prelude.{◌≡◌, ◌<◌, [], IfOk, option_map};
+ghost use Rattle.std.specs.Prelude.{◌≡◌, ◌<◌, [], IfOk, IfSome, map, option_map, true};
 ghost use Rattle.ef_grammar.specs.Grammar as g;
 ghost use Rattle.ef_grammar.specs.Table as t;
 ghost use Rattle.ef_grammar.specs.Reads.{Fits, IsNext};
-ghost use Rattle.ef_grammar.specs.Shown.{row, symbols as shown};
+ghost use Rattle.ef_grammar.specs.Shown.{Passes, row, symbol, symbols as shown};
 
 use crate::given::Grammar;
 use crate::row::{Row, Symbol};
-use crate::symbols::{Symbols, next, put};
+use crate::symbols::{Symbols, is_in, next, put};
 use std::alloc::{AllocError, Global};
 
 /// What is to be done with the next token.
@@ -18,14 +18,6 @@ pub enum Next {
     Finish,
 }
 
-/// Whether the class is in the set.
-fn is_in(set: u64, class: u8) -> bool
-    requires { class < 64 }
-    ensures { result ≡ g.has set class }
-{
-    (set >> class) & 1 == 1
-}
-
 /// The row of the rule before a token of this class.
 fn choose<G: Grammar>(
     language: &G,
@@ -33,7 +25,8 @@ fn choose<G: Grammar>(
     class: u8,
 ) -> Option<&'static Row<G::Rule, G::Action>>
     requires { class < 64 }
-    ensures { option_map (λ r. (row r.now).right) result ≡ t.chosen (t.opened_rows G.table rule) class }
+    ensures chosen { option_map (λ r. (row r.now).right) result ≡ t.chosen (t.opened_rows G.table rule) class }
+    ensures passed { IfSome result (λ r. t.vanish G.table r.now.then.pass (map symbol r.now.then.symbols.now) ≡ true) }
 {
     for row in language.rows(rule) {
         if is_in(row.at, class) {
@@ -53,10 +46,12 @@ pub fn advance<'a, G: Grammar>(
 ) -> Result<Next, AllocError>
     requires small { class < 64 }
     requires fits { Fits G.table (shown symbols.old) (g.one ((G.grammar language.now).look [])) }
-    ensures { IfOk result (λ r. IsNext (G.grammar language.now) G.table class (shown symbols.old) (G.value state.old) r (shown symbols.new) (G.value state.new)) }
+    requires passes { Passes G.table symbols.old }
+    ensures next { IfOk result (λ r. IsNext (G.grammar language.now) G.table class (shown symbols.old) (G.value state.old) r (shown symbols.new) (G.value state.new)) }
+    ensures passed { IfOk result (λ r. Passes G.table symbols.new) }
 {
     'moves: loop {
-        match next(symbols) {
+        match next(symbols, class) {
             None => return Ok(Next::Finish),
             Some(Symbol::Token(set)) => {
                 return if is_in(set, class) {
@@ -75,8 +70,8 @@ pub fn advance<'a, G: Grammar>(
                     return Ok(Next::Refuse);
                 };
                 let right: &'a [Symbol<G::Rule, G::Action>] = row.right;
-                let then: &'a [Symbol<G::Rule, G::Action>] = row.then;
-                put(symbols, right, then)?;
+                let then: &'a [Symbol<G::Rule, G::Action>] = row.then.symbols;
+                put(symbols, right, then, row.then.pass)?;
             }
         }
     }

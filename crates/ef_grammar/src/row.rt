@@ -8,10 +8,17 @@ pub enum Symbol<R, A> {
     Act(A),
 }
 
+/// Symbols, which all come to nothing at the classes of `pass`.
+#[derive(Clone, Copy)]
+pub struct Piece<'a, R, A> {
+    pub symbols: &'a [Symbol<R, A>],
+    pub pass: u64,
+}
+
 /// A right side of a rule, in two parts, and the set of the classes of tokens at which it is chosen. Rows may share their
 /// second parts.
 pub struct Row<R: 'static, A: 'static> {
     pub at: u64,
     pub right: &'static [Symbol<R, A>],
-    pub then: &'static [Symbol<R, A>],
+    pub then: Piece<'static, R, A>,
 }

@@ -1,6 +1,7 @@
 // The rows of the grammar: construct.
 
 use crate::classes;
+use crate::parts::NOTHING;
 use crate::rows::{Action, RuleName};
 use ef_grammar::Row;
 use ef_grammar::Symbol::{Act, Rule, Token};
@@ -9,7 +10,7 @@ pub const BIN_REST: &[Row<RuleName, Action>] = &[
     Row {
         at: 0x80,
         right: &[Token(1 << classes::RIGHT_BITS), Act(Action::Bin)],
-        then: &[],
+        then: NOTHING,
     },
     Row {
         at: 0x118000000,
@@ -20,12 +21,12 @@ pub const BIN_REST: &[Row<RuleName, Action>] = &[
             Rule(RuleName::SegmentRest),
             Rule(RuleName::SegmentsMore),
         ],
-        then: &[],
+        then: NOTHING,
     },
     Row {
         at: 0x370df800000055,
         right: &[Rule(RuleName::Max), Rule(RuleName::BinFirst)],
-        then: &[],
+        then: NOTHING,
     },
 ];
 
@@ -38,12 +39,12 @@ pub const BIN_FIRST: &[Row<RuleName, Action>] = &[
             Token(1 << classes::RIGHT_BITS),
             Act(Action::BinComp),
         ],
-        then: &[],
+        then: NOTHING,
     },
     Row {
         at: 0x40000780,
         right: &[Rule(RuleName::SegmentRest), Rule(RuleName::SegmentsMore)],
-        then: &[],
+        then: NOTHING,
     },
 ];
 
@@ -55,12 +56,12 @@ pub const SEGMENTS_MORE: &[Row<RuleName, Action>] = &[
             Rule(RuleName::Segment),
             Rule(RuleName::SegmentsMore),
         ],
-        then: &[],
+        then: NOTHING,
     },
     Row {
         at: 0x80,
         right: &[Token(1 << classes::RIGHT_BITS), Act(Action::Bin)],
-        then: &[],
+        then: NOTHING,
     },
 ];
 
@@ -73,12 +74,12 @@ pub const SEGMENT: &[Row<RuleName, Action>] = &[
             Act(Action::Unary),
             Rule(RuleName::SegmentRest),
         ],
-        then: &[],
+        then: NOTHING,
     },
     Row {
         at: 0x370df800000055,
         right: &[Rule(RuleName::Max), Rule(RuleName::SegmentRest)],
-        then: &[],
+        then: NOTHING,
     },
 ];
 
@@ -90,7 +91,7 @@ pub const SEGMENT_REST: &[Row<RuleName, Action>] = &[Row {
         Rule(RuleName::SegmentTypes),
         Act(Action::AddSegment),
     ],
-    then: &[],
+    then: NOTHING,
 }];
 
 pub const SEGMENT_SIZE: &[Row<RuleName, Action>] = &[
@@ -101,12 +102,12 @@ pub const SEGMENT_SIZE: &[Row<RuleName, Action>] = &[
             Rule(RuleName::Max),
             Act(Action::Size),
         ],
-        then: &[],
+        then: NOTHING,
     },
     Row {
         at: 0x40000180,
         right: &[],
-        then: &[],
+        then: NOTHING,
     },
 ];
 
@@ -118,12 +119,12 @@ pub const SEGMENT_TYPES: &[Row<RuleName, Action>] = &[
             Rule(RuleName::Word),
             Rule(RuleName::WordsMore),
         ],
-        then: &[],
+        then: NOTHING,
     },
     Row {
         at: 0x180,
         right: &[],
-        then: &[],
+        then: NOTHING,
     },
 ];
 
@@ -135,19 +136,19 @@ pub const WORDS_MORE: &[Row<RuleName, Action>] = &[
             Rule(RuleName::Word),
             Rule(RuleName::WordsMore),
         ],
-        then: &[],
+        then: NOTHING,
     },
     Row {
         at: 0x180,
         right: &[],
-        then: &[],
+        then: NOTHING,
     },
 ];
 
 pub const WORD: &[Row<RuleName, Action>] = &[Row {
     at: 0x800000000,
     right: &[Token(1 << classes::ATOM), Rule(RuleName::WordNumber)],
-    then: &[],
+    then: NOTHING,
 }];
 
 pub const WORD_NUMBER: &[Row<RuleName, Action>] = &[
@@ -158,12 +159,12 @@ pub const WORD_NUMBER: &[Row<RuleName, Action>] = &[
             Token(1 << classes::INT),
             Act(Action::WordNumber),
         ],
-        then: &[],
+        then: NOTHING,
     },
     Row {
         at: 0x10000180,
         right: &[Act(Action::Word)],
-        then: &[],
+        then: NOTHING,
     },
 ];
 
@@ -174,7 +175,7 @@ pub const QUALIFIERS: &[Row<RuleName, Action>] = &[Row {
         Rule(RuleName::Qualifier),
         Rule(RuleName::QualifiersMore),
     ],
-    then: &[],
+    then: NOTHING,
 }];
 
 pub const QUALIFIERS_MORE: &[Row<RuleName, Action>] = &[
@@ -185,12 +186,12 @@ pub const QUALIFIERS_MORE: &[Row<RuleName, Action>] = &[
             Rule(RuleName::Qualifier),
             Rule(RuleName::QualifiersMore),
         ],
-        then: &[],
+        then: NOTHING,
     },
     Row {
         at: 0x88,
         right: &[],
-        then: &[],
+        then: NOTHING,
     },
 ];
 
@@ -203,7 +204,7 @@ pub const QUALIFIER: &[Row<RuleName, Action>] = &[
             Act(Action::Catching),
             Rule(RuleName::QualifierTail),
         ],
-        then: &[],
+        then: NOTHING,
     },
     Row {
         at: 0x118000000,
@@ -214,7 +215,7 @@ pub const QUALIFIER: &[Row<RuleName, Action>] = &[
             Rule(RuleName::UnaryMore),
             Rule(RuleName::QualifierTail),
         ],
-        then: &[],
+        then: NOTHING,
     },
     Row {
         at: 0x80000,
@@ -226,12 +227,12 @@ pub const QUALIFIER: &[Row<RuleName, Action>] = &[
             Rule(RuleName::UnaryMore),
             Rule(RuleName::QualifierTail),
         ],
-        then: &[],
+        then: NOTHING,
     },
     Row {
         at: 0x370df800000055,
         right: &[Rule(RuleName::Max), Rule(RuleName::QualifierMax)],
-        then: &[],
+        then: NOTHING,
     },
 ];
 
@@ -243,7 +244,7 @@ pub const QUALIFIER_MAX: &[Row<RuleName, Action>] = &[
             Rule(RuleName::Expression),
             Act(Action::From),
         ],
-        then: &[],
+        then: NOTHING,
     },
     Row {
         at: 0x148f206feffefab,
@@ -252,7 +253,7 @@ pub const QUALIFIER_MAX: &[Row<RuleName, Action>] = &[
             Rule(RuleName::UnaryMore),
             Rule(RuleName::QualifierTail),
         ],
-        then: &[],
+        then: NOTHING,
     },
 ];
 
@@ -264,12 +265,12 @@ pub const QUALIFIER_TAIL: &[Row<RuleName, Action>] = &[
             Rule(RuleName::Expression),
             Act(Action::From),
         ],
-        then: &[],
+        then: NOTHING,
     },
     Row {
         at: 0x188,
         right: &[Act(Action::Filter)],
-        then: &[],
+        then: NOTHING,
     },
 ];
 
@@ -284,19 +285,19 @@ pub const UNARY_MORE: &[Row<RuleName, Action>] = &[Row {
         Rule(RuleName::OrelseTail),
         Rule(RuleName::MatchTail),
     ],
-    then: &[],
+    then: NOTHING,
 }];
 
 pub const GUARD_OPT: &[Row<RuleName, Action>] = &[
     Row {
         at: 0x40000000000000,
         right: &[Token(1 << classes::WHEN), Rule(RuleName::Guard)],
-        then: &[],
+        then: NOTHING,
     },
     Row {
         at: 0x10000,
         right: &[Act(Action::NoGuard)],
-        then: &[],
+        then: NOTHING,
     },
 ];
 
@@ -308,7 +309,7 @@ pub const GUARD: &[Row<RuleName, Action>] = &[Row {
         Act(Action::AddGuard),
         Rule(RuleName::GuardMore),
     ],
-    then: &[],
+    then: NOTHING,
 }];
 
 pub const GUARD_MORE: &[Row<RuleName, Action>] = &[
@@ -320,12 +321,12 @@ pub const GUARD_MORE: &[Row<RuleName, Action>] = &[
             Act(Action::AddGuard),
             Rule(RuleName::GuardMore),
         ],
-        then: &[],
+        then: NOTHING,
     },
     Row {
         at: 0x10000,
         right: &[],
-        then: &[],
+        then: NOTHING,
     },
 ];
 
@@ -336,7 +337,7 @@ pub const IF_CLAUSES: &[Row<RuleName, Action>] = &[Row {
         Rule(RuleName::IfClause),
         Rule(RuleName::IfMore),
     ],
-    then: &[],
+    then: NOTHING,
 }];
 
 pub const IF_MORE: &[Row<RuleName, Action>] = &[
@@ -347,12 +348,12 @@ pub const IF_MORE: &[Row<RuleName, Action>] = &[
             Rule(RuleName::IfClause),
             Rule(RuleName::IfMore),
         ],
-        then: &[],
+        then: NOTHING,
     },
     Row {
         at: 0x800000000000,
         right: &[],
-        then: &[],
+        then: NOTHING,
     },
 ];
 
@@ -364,7 +365,7 @@ pub const IF_CLAUSE: &[Row<RuleName, Action>] = &[Row {
         Rule(RuleName::Body),
         Act(Action::IfClause),
     ],
-    then: &[],
+    then: NOTHING,
 }];
 
 pub const CLAUSES: &[Row<RuleName, Action>] = &[Row {
@@ -374,7 +375,7 @@ pub const CLAUSES: &[Row<RuleName, Action>] = &[Row {
         Rule(RuleName::Clause),
         Rule(RuleName::ClausesMore),
     ],
-    then: &[],
+    then: NOTHING,
 }];
 
 pub const CLAUSES_MORE: &[Row<RuleName, Action>] = &[
@@ -385,12 +386,12 @@ pub const CLAUSES_MORE: &[Row<RuleName, Action>] = &[
             Rule(RuleName::Clause),
             Rule(RuleName::ClausesMore),
         ],
-        then: &[],
+        then: NOTHING,
     },
     Row {
         at: 0xb20000000000,
         right: &[],
-        then: &[],
+        then: NOTHING,
     },
 ];
 
@@ -403,14 +404,14 @@ pub const CLAUSE: &[Row<RuleName, Action>] = &[Row {
         Rule(RuleName::Body),
         Act(Action::Clause),
     ],
-    then: &[],
+    then: NOTHING,
 }];
 
 pub const RECEIVE_REST: &[Row<RuleName, Action>] = &[
     Row {
         at: 0x373df918080055,
         right: &[Rule(RuleName::Clauses), Rule(RuleName::ReceiveAfter)],
-        then: &[],
+        then: NOTHING,
     },
     Row {
         at: 0x20000000000,
@@ -423,7 +424,7 @@ pub const RECEIVE_REST: &[Row<RuleName, Action>] = &[
             Token(1 << classes::END),
             Act(Action::ReceiveAfter),
         ],
-        then: &[],
+        then: NOTHING,
     },
 ];
 
@@ -438,12 +439,12 @@ pub const RECEIVE_AFTER: &[Row<RuleName, Action>] = &[
             Token(1 << classes::END),
             Act(Action::ReceiveAfter),
         ],
-        then: &[],
+        then: NOTHING,
     },
     Row {
         at: 0x800000000000,
         right: &[Token(1 << classes::END), Act(Action::ReceiveOf)],
-        then: &[],
+        then: NOTHING,
     },
 ];
 
@@ -456,7 +457,7 @@ pub const TRY_OF: &[Row<RuleName, Action>] = &[
             Act(Action::NoCatches),
             Rule(RuleName::TryRest),
         ],
-        then: &[],
+        then: NOTHING,
     },
     Row {
         at: 0x320000000000,
@@ -465,7 +466,7 @@ pub const TRY_OF: &[Row<RuleName, Action>] = &[
             Act(Action::NoCatches),
             Rule(RuleName::TryRest),
         ],
-        then: &[],
+        then: NOTHING,
     },
 ];
 
@@ -480,7 +481,7 @@ pub const TRY_REST: &[Row<RuleName, Action>] = &[
             Rule(RuleName::CatchesMore),
             Rule(RuleName::TryAfter),
         ],
-        then: &[],
+        then: NOTHING,
     },
     Row {
         at: 0x200000000000,
@@ -492,7 +493,7 @@ pub const TRY_REST: &[Row<RuleName, Action>] = &[
             Rule(RuleName::CatchesMore),
             Rule(RuleName::TryAfter),
         ],
-        then: &[],
+        then: NOTHING,
     },
     Row {
         at: 0x20000000000,
@@ -502,7 +503,7 @@ pub const TRY_REST: &[Row<RuleName, Action>] = &[
             Token(1 << classes::END),
             Act(Action::TryOf),
         ],
-        then: &[],
+        then: NOTHING,
     },
 ];
 
@@ -515,7 +516,7 @@ pub const TRY_AFTER: &[Row<RuleName, Action>] = &[
             Token(1 << classes::END),
             Act(Action::TryOf),
         ],
-        then: &[],
+        then: NOTHING,
     },
     Row {
         at: 0x800000000000,
@@ -524,7 +525,7 @@ pub const TRY_AFTER: &[Row<RuleName, Action>] = &[
             Token(1 << classes::END),
             Act(Action::TryOf),
         ],
-        then: &[],
+        then: NOTHING,
     },
 ];
 
@@ -537,7 +538,7 @@ pub const CATCHES_MORE: &[Row<RuleName, Action>] = &[
             Rule(RuleName::CatchClause),
             Rule(RuleName::CatchesMore),
         ],
-        then: &[],
+        then: NOTHING,
     },
     Row {
         at: 0x8000,
@@ -547,12 +548,12 @@ pub const CATCHES_MORE: &[Row<RuleName, Action>] = &[
             Rule(RuleName::CatchClause),
             Rule(RuleName::CatchesMore),
         ],
-        then: &[],
+        then: NOTHING,
     },
     Row {
         at: 0x820000000000,
         right: &[],
-        then: &[],
+        then: NOTHING,
     },
 ];
 
@@ -563,7 +564,7 @@ pub const CLASS: &[Row<RuleName, Action>] = &[Row {
         Token(classes::ANY_COLON),
         Act(Action::Class),
     ],
-    then: &[],
+    then: NOTHING,
 }];
 
 pub const CATCH_CLAUSE: &[Row<RuleName, Action>] = &[Row {
@@ -576,7 +577,7 @@ pub const CATCH_CLAUSE: &[Row<RuleName, Action>] = &[Row {
         Rule(RuleName::Body),
         Act(Action::CatchClause),
     ],
-    then: &[],
+    then: NOTHING,
 }];
 
 pub const STEPS_MORE: &[Row<RuleName, Action>] = &[
@@ -587,12 +588,12 @@ pub const STEPS_MORE: &[Row<RuleName, Action>] = &[
             Rule(RuleName::Step),
             Rule(RuleName::StepsMore),
         ],
-        then: &[],
+        then: NOTHING,
     },
     Row {
         at: 0xc00000000000,
         right: &[],
-        then: &[],
+        then: NOTHING,
     },
 ];
 
@@ -605,12 +606,12 @@ pub const STEP: &[Row<RuleName, Action>] = &[
             Act(Action::Catching),
             Act(Action::Step),
         ],
-        then: &[],
+        then: NOTHING,
     },
     Row {
         at: 0x370df918080055,
         right: &[Rule(RuleName::Orelse), Rule(RuleName::StepTail)],
-        then: &[],
+        then: NOTHING,
     },
 ];
 
@@ -622,12 +623,12 @@ pub const STEP_TAIL: &[Row<RuleName, Action>] = &[
             Rule(RuleName::Expression),
             Act(Action::StepMatch),
         ],
-        then: &[],
+        then: NOTHING,
     },
     Row {
         at: 0x148f20000b7e9aa,
         right: &[Rule(RuleName::MatchTail), Act(Action::Step)],
-        then: &[],
+        then: NOTHING,
     },
 ];
 
@@ -640,7 +641,7 @@ pub const MAYBE_ELSE: &[Row<RuleName, Action>] = &[
             Token(1 << classes::END),
             Act(Action::MaybeOf),
         ],
-        then: &[],
+        then: NOTHING,
     },
     Row {
         at: 0x800000000000,
@@ -649,7 +650,7 @@ pub const MAYBE_ELSE: &[Row<RuleName, Action>] = &[
             Token(1 << classes::END),
             Act(Action::MaybeOf),
         ],
-        then: &[],
+        then: NOTHING,
     },
 ];
 
@@ -657,12 +658,12 @@ pub const FUN_REST: &[Row<RuleName, Action>] = &[
     Row {
         at: 0x800000000,
         right: &[Token(1 << classes::ATOM), Rule(RuleName::FunAtom)],
-        then: &[],
+        then: NOTHING,
     },
     Row {
         at: 0x3000000000,
         right: &[Token(classes::VARIABLE), Rule(RuleName::FunVar)],
-        then: &[],
+        then: NOTHING,
     },
     Row {
         at: 0x1,
@@ -673,7 +674,7 @@ pub const FUN_REST: &[Row<RuleName, Action>] = &[
             Token(1 << classes::END),
             Act(Action::FunOf),
         ],
-        then: &[],
+        then: NOTHING,
     },
 ];
 
@@ -685,12 +686,12 @@ pub const FUN_ATOM: &[Row<RuleName, Action>] = &[
             Token(1 << classes::INT),
             Act(Action::FunLocal),
         ],
-        then: &[],
+        then: NOTHING,
     },
     Row {
         at: 0x600,
         right: &[Rule(RuleName::FunRemote)],
-        then: &[],
+        then: NOTHING,
     },
 ];
 
@@ -704,12 +705,12 @@ pub const FUN_VAR: &[Row<RuleName, Action>] = &[
             Token(1 << classes::END),
             Act(Action::FunOf),
         ],
-        then: &[],
+        then: NOTHING,
     },
     Row {
         at: 0x600,
         right: &[Rule(RuleName::FunRemote)],
-        then: &[],
+        then: NOTHING,
     },
 ];
 
@@ -722,25 +723,25 @@ pub const FUN_REMOTE: &[Row<RuleName, Action>] = &[Row {
         Rule(RuleName::Arity),
         Act(Action::FunRemote),
     ],
-    then: &[],
+    then: NOTHING,
 }];
 
 pub const NAME: &[Row<RuleName, Action>] = &[Row {
     at: 0x3800000000,
     right: &[Token(classes::NAME), Act(Action::Leaf)],
-    then: &[],
+    then: NOTHING,
 }];
 
 pub const ARITY: &[Row<RuleName, Action>] = &[
     Row {
         at: 0x4000000000,
         right: &[Token(1 << classes::INT), Act(Action::Leaf)],
-        then: &[],
+        then: NOTHING,
     },
     Row {
         at: 0x3000000000,
         right: &[Token(classes::VARIABLE), Act(Action::Leaf)],
-        then: &[],
+        then: NOTHING,
     },
 ];
 
@@ -754,7 +755,7 @@ pub const FUN_CLAUSE: &[Row<RuleName, Action>] = &[Row {
         Token(1 << classes::ARROW),
         Rule(RuleName::Body),
     ],
-    then: &[],
+    then: NOTHING,
 }];
 
 pub const FUN_CLAUSES_MORE: &[Row<RuleName, Action>] = &[
@@ -766,12 +767,12 @@ pub const FUN_CLAUSES_MORE: &[Row<RuleName, Action>] = &[
             Act(Action::FunClause),
             Rule(RuleName::FunClausesMore),
         ],
-        then: &[],
+        then: NOTHING,
     },
     Row {
         at: 0x800000000000,
         right: &[],
-        then: &[],
+        then: NOTHING,
     },
 ];
 
@@ -785,11 +786,11 @@ pub const NAMED_CLAUSES_MORE: &[Row<RuleName, Action>] = &[
             Act(Action::NamedClause),
             Rule(RuleName::NamedClausesMore),
         ],
-        then: &[],
+        then: NOTHING,
     },
     Row {
         at: 0x800000000000,
         right: &[],
-        then: &[],
+        then: NOTHING,
     },
 ];

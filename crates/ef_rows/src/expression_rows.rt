@@ -1,6 +1,7 @@
 // The rows of the grammar: expression.
 
 use crate::classes;
+use crate::parts::NOTHING;
 use crate::rows::{Action, RuleName};
 use ef_grammar::Row;
 use ef_grammar::Symbol::{Act, Rule, Token};
@@ -13,7 +14,7 @@ pub const MATCH_TAIL: &[Row<RuleName, Action>] = &[
             Rule(RuleName::Expression),
             Act(Action::Matching),
         ],
-        then: &[],
+        then: NOTHING,
     },
     Row {
         at: 0x200000,
@@ -22,12 +23,12 @@ pub const MATCH_TAIL: &[Row<RuleName, Action>] = &[
             Rule(RuleName::Expression),
             Act(Action::Binary),
         ],
-        then: &[],
+        then: NOTHING,
     },
     Row {
         at: 0x148f2000087e9aa,
         right: &[],
-        then: &[],
+        then: NOTHING,
     },
 ];
 
@@ -39,12 +40,12 @@ pub const ORELSE_TAIL: &[Row<RuleName, Action>] = &[
             Rule(RuleName::Orelse),
             Act(Action::OrElse),
         ],
-        then: &[],
+        then: NOTHING,
     },
     Row {
         at: 0x148f20000f7e9aa,
         right: &[],
-        then: &[],
+        then: NOTHING,
     },
 ];
 
@@ -56,12 +57,12 @@ pub const ANDALSO_TAIL: &[Row<RuleName, Action>] = &[
             Rule(RuleName::Andalso),
             Act(Action::AndAlso),
         ],
-        then: &[],
+        then: NOTHING,
     },
     Row {
         at: 0x148f20400f7e9aa,
         right: &[],
-        then: &[],
+        then: NOTHING,
     },
 ];
 
@@ -73,12 +74,12 @@ pub const CMP_TAIL: &[Row<RuleName, Action>] = &[
             Rule(RuleName::List),
             Act(Action::Binary),
         ],
-        then: &[],
+        then: NOTHING,
     },
     Row {
         at: 0x148f20600f7e9aa,
         right: &[],
-        then: &[],
+        then: NOTHING,
     },
 ];
 
@@ -90,12 +91,12 @@ pub const LIST_TAIL: &[Row<RuleName, Action>] = &[
             Rule(RuleName::List),
             Act(Action::Binary),
         ],
-        then: &[],
+        then: NOTHING,
     },
     Row {
         at: 0x148f20602f7e9aa,
         right: &[],
-        then: &[],
+        then: NOTHING,
     },
 ];
 
@@ -108,12 +109,12 @@ pub const ADD_TAIL: &[Row<RuleName, Action>] = &[
             Act(Action::Binary),
             Rule(RuleName::AddTail),
         ],
-        then: &[],
+        then: NOTHING,
     },
     Row {
         at: 0x148f20606f7e9aa,
         right: &[],
-        then: &[],
+        then: NOTHING,
     },
 ];
 
@@ -126,12 +127,12 @@ pub const MUL_TAIL: &[Row<RuleName, Action>] = &[
             Act(Action::Binary),
             Rule(RuleName::MulTail),
         ],
-        then: &[],
+        then: NOTHING,
     },
     Row {
         at: 0x148f2063ef7e9aa,
         right: &[],
-        then: &[],
+        then: NOTHING,
     },
 ];
 
@@ -145,7 +146,7 @@ pub const MAX_TAIL: &[Row<RuleName, Action>] = &[
             Act(Action::Call),
             Rule(RuleName::TraceTail),
         ],
-        then: &[],
+        then: NOTHING,
     },
     Row {
         at: 0x200,
@@ -158,7 +159,7 @@ pub const MAX_TAIL: &[Row<RuleName, Action>] = &[
             Act(Action::Remote),
             Rule(RuleName::TraceTail),
         ],
-        then: &[],
+        then: NOTHING,
     },
     Row {
         at: 0x400,
@@ -167,7 +168,7 @@ pub const MAX_TAIL: &[Row<RuleName, Action>] = &[
             Token(classes::VARIABLE),
             Act(Action::Trace),
         ],
-        then: &[],
+        then: NOTHING,
     },
     Row {
         at: 0x80000,
@@ -177,12 +178,12 @@ pub const MAX_TAIL: &[Row<RuleName, Action>] = &[
             Rule(RuleName::RecordUse),
             Rule(RuleName::RecordMore),
         ],
-        then: &[],
+        then: NOTHING,
     },
     Row {
         at: 0x148f206fef7e9aa,
         right: &[],
-        then: &[],
+        then: NOTHING,
     },
 ];
 
@@ -195,12 +196,12 @@ pub const RECORD_MORE: &[Row<RuleName, Action>] = &[
             Rule(RuleName::RecordUse),
             Rule(RuleName::RecordMore),
         ],
-        then: &[],
+        then: NOTHING,
     },
     Row {
         at: 0x148f206fef7efaa,
         right: &[Rule(RuleName::TraceTail)],
-        then: &[],
+        then: NOTHING,
     },
 ];
 
@@ -212,7 +213,7 @@ pub const RECORD_NEW: &[Row<RuleName, Action>] = &[
             Rule(RuleName::Fields),
             Act(Action::RecordNew),
         ],
-        then: &[],
+        then: NOTHING,
     },
     Row {
         at: 0x1000,
@@ -221,7 +222,7 @@ pub const RECORD_NEW: &[Row<RuleName, Action>] = &[
             Token(1 << classes::ATOM),
             Act(Action::RecordIndex),
         ],
-        then: &[],
+        then: NOTHING,
     },
 ];
 
@@ -233,7 +234,7 @@ pub const RECORD_USE: &[Row<RuleName, Action>] = &[
             Rule(RuleName::Fields),
             Act(Action::RecordUpdate),
         ],
-        then: &[],
+        then: NOTHING,
     },
     Row {
         at: 0x1000,
@@ -242,26 +243,26 @@ pub const RECORD_USE: &[Row<RuleName, Action>] = &[
             Token(1 << classes::ATOM),
             Act(Action::RecordField),
         ],
-        then: &[],
+        then: NOTHING,
     },
 ];
 
 pub const FIELDS: &[Row<RuleName, Action>] = &[Row {
     at: 0x2800000020,
     right: &[Act(Action::NoFields), Rule(RuleName::FieldsRest)],
-    then: &[],
+    then: NOTHING,
 }];
 
 pub const FIELDS_REST: &[Row<RuleName, Action>] = &[
     Row {
         at: 0x20,
         right: &[Token(1 << classes::RIGHT_BRACE)],
-        then: &[],
+        then: NOTHING,
     },
     Row {
         at: 0x2800000000,
         right: &[Rule(RuleName::Field), Rule(RuleName::FieldsMore)],
-        then: &[],
+        then: NOTHING,
     },
 ];
 
@@ -273,12 +274,12 @@ pub const FIELDS_MORE: &[Row<RuleName, Action>] = &[
             Rule(RuleName::Field),
             Rule(RuleName::FieldsMore),
         ],
-        then: &[],
+        then: NOTHING,
     },
     Row {
         at: 0x20,
         right: &[Token(1 << classes::RIGHT_BRACE)],
-        then: &[],
+        then: NOTHING,
     },
 ];
 
@@ -291,7 +292,7 @@ pub const FIELD: &[Row<RuleName, Action>] = &[
             Rule(RuleName::Expression),
             Act(Action::Field),
         ],
-        then: &[],
+        then: NOTHING,
     },
     Row {
         at: 0x2000000000,
@@ -301,7 +302,7 @@ pub const FIELD: &[Row<RuleName, Action>] = &[
             Rule(RuleName::Expression),
             Act(Action::Field),
         ],
-        then: &[],
+        then: NOTHING,
     },
 ];
 
@@ -314,7 +315,7 @@ pub const TRACE_TAIL: &[Row<RuleName, Action>] = &[
             Token(classes::VARIABLE),
             Act(Action::Trace),
         ],
-        then: &[],
+        then: NOTHING,
     },
     Row {
         at: 0x200,
@@ -324,12 +325,12 @@ pub const TRACE_TAIL: &[Row<RuleName, Action>] = &[
             Token(classes::VARIABLE),
             Act(Action::Refuse),
         ],
-        then: &[],
+        then: NOTHING,
     },
     Row {
         at: 0x148f206fef7e9aa,
         right: &[],
-        then: &[],
+        then: NOTHING,
     },
 ];
 
@@ -337,7 +338,7 @@ pub const MAX: &[Row<RuleName, Action>] = &[
     Row {
         at: 0xf800000000,
         right: &[Token(classes::SINGLE), Act(Action::Leaf)],
-        then: &[],
+        then: NOTHING,
     },
     Row {
         at: 0x10000000000,
@@ -346,7 +347,7 @@ pub const MAX: &[Row<RuleName, Action>] = &[
             Act(Action::Leaf),
             Rule(RuleName::Strings),
         ],
-        then: &[],
+        then: NOTHING,
     },
     Row {
         at: 0x1,
@@ -356,7 +357,7 @@ pub const MAX: &[Row<RuleName, Action>] = &[
             Token(1 << classes::RIGHT_PAREN),
             Act(Action::Parens),
         ],
-        then: &[],
+        then: NOTHING,
     },
     Row {
         at: 0x4,
@@ -365,7 +366,7 @@ pub const MAX: &[Row<RuleName, Action>] = &[
             Act(Action::None),
             Rule(RuleName::ListRest),
         ],
-        then: &[],
+        then: NOTHING,
     },
     Row {
         at: 0x10,
@@ -374,7 +375,7 @@ pub const MAX: &[Row<RuleName, Action>] = &[
             Act(Action::None),
             Rule(RuleName::TupleRest),
         ],
-        then: &[],
+        then: NOTHING,
     },
     Row {
         at: 0x40,
@@ -383,7 +384,7 @@ pub const MAX: &[Row<RuleName, Action>] = &[
             Act(Action::NoSegments),
             Rule(RuleName::BinRest),
         ],
-        then: &[],
+        then: NOTHING,
     },
     Row {
         at: 0x40000000000,
@@ -393,7 +394,7 @@ pub const MAX: &[Row<RuleName, Action>] = &[
             Token(1 << classes::END),
             Act(Action::Block),
         ],
-        then: &[],
+        then: NOTHING,
     },
     Row {
         at: 0x2000000000000,
@@ -403,7 +404,7 @@ pub const MAX: &[Row<RuleName, Action>] = &[
             Token(1 << classes::END),
             Act(Action::IfOf),
         ],
-        then: &[],
+        then: NOTHING,
     },
     Row {
         at: 0x80000000000,
@@ -415,12 +416,12 @@ pub const MAX: &[Row<RuleName, Action>] = &[
             Token(1 << classes::END),
             Act(Action::CaseOf),
         ],
-        then: &[],
+        then: NOTHING,
     },
     Row {
         at: 0x10000000000000,
         right: &[Token(1 << classes::RECEIVE), Rule(RuleName::ReceiveRest)],
-        then: &[],
+        then: NOTHING,
     },
     Row {
         at: 0x20000000000000,
@@ -429,7 +430,7 @@ pub const MAX: &[Row<RuleName, Action>] = &[
             Rule(RuleName::Body),
             Rule(RuleName::TryOf),
         ],
-        then: &[],
+        then: NOTHING,
     },
     Row {
         at: 0x4000000000000,
@@ -440,7 +441,7 @@ pub const MAX: &[Row<RuleName, Action>] = &[
             Rule(RuleName::StepsMore),
             Rule(RuleName::MaybeElse),
         ],
-        then: &[],
+        then: NOTHING,
     },
     Row {
         at: 0x1000000000000,
@@ -449,7 +450,7 @@ pub const MAX: &[Row<RuleName, Action>] = &[
             Act(Action::NoClauses),
             Rule(RuleName::FunRest),
         ],
-        then: &[],
+        then: NOTHING,
     },
 ];
 
@@ -461,12 +462,12 @@ pub const STRINGS: &[Row<RuleName, Action>] = &[
             Act(Action::Join),
             Rule(RuleName::Strings),
         ],
-        then: &[],
+        then: NOTHING,
     },
     Row {
         at: 0x148f206ffffefab,
         right: &[],
-        then: &[],
+        then: NOTHING,
     },
 ];
 
@@ -474,12 +475,12 @@ pub const LIST_REST: &[Row<RuleName, Action>] = &[
     Row {
         at: 0x8,
         right: &[Token(1 << classes::RIGHT_BRACKET), Act(Action::List)],
-        then: &[],
+        then: NOTHING,
     },
     Row {
         at: 0x373df918080055,
         right: &[Rule(RuleName::Expression), Rule(RuleName::ListFirst)],
-        then: &[],
+        then: NOTHING,
     },
 ];
 
@@ -492,12 +493,12 @@ pub const LIST_FIRST: &[Row<RuleName, Action>] = &[
             Token(1 << classes::RIGHT_BRACKET),
             Act(Action::ListComp),
         ],
-        then: &[],
+        then: NOTHING,
     },
     Row {
         at: 0x20108,
         right: &[Act(Action::Add), Rule(RuleName::ListMore)],
-        then: &[],
+        then: NOTHING,
     },
 ];
 
@@ -510,7 +511,7 @@ pub const LIST_MORE: &[Row<RuleName, Action>] = &[
             Act(Action::Add),
             Rule(RuleName::ListMore),
         ],
-        then: &[],
+        then: NOTHING,
     },
     Row {
         at: 0x20000,
@@ -520,12 +521,12 @@ pub const LIST_MORE: &[Row<RuleName, Action>] = &[
             Token(1 << classes::RIGHT_BRACKET),
             Act(Action::ListTo),
         ],
-        then: &[],
+        then: NOTHING,
     },
     Row {
         at: 0x8,
         right: &[Token(1 << classes::RIGHT_BRACKET), Act(Action::List)],
-        then: &[],
+        then: NOTHING,
     },
 ];
 
@@ -533,7 +534,7 @@ pub const TUPLE_REST: &[Row<RuleName, Action>] = &[
     Row {
         at: 0x20,
         right: &[Token(1 << classes::RIGHT_BRACE), Act(Action::Tuple)],
-        then: &[],
+        then: NOTHING,
     },
     Row {
         at: 0x373df918080055,
@@ -542,7 +543,7 @@ pub const TUPLE_REST: &[Row<RuleName, Action>] = &[
             Act(Action::Add),
             Rule(RuleName::TupleMore),
         ],
-        then: &[],
+        then: NOTHING,
     },
 ];
 
@@ -555,12 +556,12 @@ pub const TUPLE_MORE: &[Row<RuleName, Action>] = &[
             Act(Action::Add),
             Rule(RuleName::TupleMore),
         ],
-        then: &[],
+        then: NOTHING,
     },
     Row {
         at: 0x20,
         right: &[Token(1 << classes::RIGHT_BRACE), Act(Action::Tuple)],
-        then: &[],
+        then: NOTHING,
     },
 ];
 
@@ -568,7 +569,7 @@ pub const ARGS: &[Row<RuleName, Action>] = &[
     Row {
         at: 0x2,
         right: &[Token(1 << classes::RIGHT_PAREN)],
-        then: &[],
+        then: NOTHING,
     },
     Row {
         at: 0x373df918080055,
@@ -577,7 +578,7 @@ pub const ARGS: &[Row<RuleName, Action>] = &[
             Act(Action::Add),
             Rule(RuleName::ArgsMore),
         ],
-        then: &[],
+        then: NOTHING,
     },
 ];
 
@@ -590,12 +591,12 @@ pub const ARGS_MORE: &[Row<RuleName, Action>] = &[
             Act(Action::Add),
             Rule(RuleName::ArgsMore),
         ],
-        then: &[],
+        then: NOTHING,
     },
     Row {
         at: 0x2,
         right: &[Token(1 << classes::RIGHT_PAREN)],
-        then: &[],
+        then: NOTHING,
     },
 ];
 
@@ -607,7 +608,7 @@ pub const BODY: &[Row<RuleName, Action>] = &[Row {
         Act(Action::Add),
         Rule(RuleName::BodyMore),
     ],
-    then: &[],
+    then: NOTHING,
 }];
 
 pub const BODY_MORE: &[Row<RuleName, Action>] = &[
@@ -619,11 +620,11 @@ pub const BODY_MORE: &[Row<RuleName, Action>] = &[
             Act(Action::Add),
             Rule(RuleName::BodyMore),
         ],
-        then: &[],
+        then: NOTHING,
     },
     Row {
         at: 0x108b2000001e000,
         right: &[],
-        then: &[],
+        then: NOTHING,
     },
 ];

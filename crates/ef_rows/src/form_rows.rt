@@ -1,6 +1,7 @@
 // The rows of the grammar: form.
 
 use crate::classes;
+use crate::parts::NOTHING;
 use crate::rows::{Action, RuleName};
 use ef_grammar::Row;
 use ef_grammar::Symbol::{Act, Rule, Token};
@@ -14,7 +15,7 @@ pub const FUNCTION: &[Row<RuleName, Action>] = &[Row {
         Act(Action::FunctionClause),
         Rule(RuleName::FunctionMore),
     ],
-    then: &[],
+    then: NOTHING,
 }];
 
 pub const FUNCTION_MORE: &[Row<RuleName, Action>] = &[
@@ -27,12 +28,12 @@ pub const FUNCTION_MORE: &[Row<RuleName, Action>] = &[
             Act(Action::FunctionClause),
             Rule(RuleName::FunctionMore),
         ],
-        then: &[],
+        then: NOTHING,
     },
     Row {
         at: 0x100000000002000,
         right: &[],
-        then: &[],
+        then: NOTHING,
     },
 ];
 
@@ -43,7 +44,7 @@ pub const FORM_FUNCTION: &[Row<RuleName, Action>] = &[Row {
         Token(1 << classes::DOT),
         Act(Action::Function),
     ],
-    then: &[],
+    then: NOTHING,
 }];
 
 pub const FORM_MODULE: &[Row<RuleName, Action>] = &[Row {
@@ -57,7 +58,7 @@ pub const FORM_MODULE: &[Row<RuleName, Action>] = &[Row {
         Token(1 << classes::DOT),
         Act(Action::ModuleName),
     ],
-    then: &[],
+    then: NOTHING,
 }];
 
 pub const FORM_EXPORT: &[Row<RuleName, Action>] = &[Row {
@@ -72,7 +73,7 @@ pub const FORM_EXPORT: &[Row<RuleName, Action>] = &[Row {
         Token(1 << classes::DOT),
         Act(Action::Export),
     ],
-    then: &[],
+    then: NOTHING,
 }];
 
 pub const FORM_IMPORT: &[Row<RuleName, Action>] = &[Row {
@@ -89,7 +90,7 @@ pub const FORM_IMPORT: &[Row<RuleName, Action>] = &[Row {
         Token(1 << classes::DOT),
         Act(Action::Import),
     ],
-    then: &[],
+    then: NOTHING,
 }];
 
 pub const FORM_RECORD: &[Row<RuleName, Action>] = &[Row {
@@ -106,7 +107,7 @@ pub const FORM_RECORD: &[Row<RuleName, Action>] = &[Row {
         Token(1 << classes::DOT),
         Act(Action::RecordOf),
     ],
-    then: &[],
+    then: NOTHING,
 }];
 
 pub const FORM_DROPPED: &[Row<RuleName, Action>] = &[Row {
@@ -118,7 +119,7 @@ pub const FORM_DROPPED: &[Row<RuleName, Action>] = &[Row {
         Token(1 << classes::DOT),
         Act(Action::Dropped),
     ],
-    then: &[],
+    then: NOTHING,
 }];
 
 pub const FORM_OTHER: &[Row<RuleName, Action>] = &[Row {
@@ -132,25 +133,25 @@ pub const FORM_OTHER: &[Row<RuleName, Action>] = &[Row {
         Token(1 << classes::DOT),
         Act(Action::Attribute),
     ],
-    then: &[],
+    then: NOTHING,
 }];
 
 pub const REFERENCES: &[Row<RuleName, Action>] = &[Row {
     at: 0x800000008,
     right: &[Act(Action::NoReferences), Rule(RuleName::ReferencesRest)],
-    then: &[],
+    then: NOTHING,
 }];
 
 pub const REFERENCES_REST: &[Row<RuleName, Action>] = &[
     Row {
         at: 0x8,
         right: &[Token(1 << classes::RIGHT_BRACKET)],
-        then: &[],
+        then: NOTHING,
     },
     Row {
         at: 0x800000000,
         right: &[Rule(RuleName::Reference), Rule(RuleName::ReferencesMore)],
-        then: &[],
+        then: NOTHING,
     },
 ];
 
@@ -162,12 +163,12 @@ pub const REFERENCES_MORE: &[Row<RuleName, Action>] = &[
             Rule(RuleName::Reference),
             Rule(RuleName::ReferencesMore),
         ],
-        then: &[],
+        then: NOTHING,
     },
     Row {
         at: 0x8,
         right: &[Token(1 << classes::RIGHT_BRACKET)],
-        then: &[],
+        then: NOTHING,
     },
 ];
 
@@ -179,25 +180,25 @@ pub const REFERENCE: &[Row<RuleName, Action>] = &[Row {
         Token(1 << classes::INT),
         Act(Action::Reference),
     ],
-    then: &[],
+    then: NOTHING,
 }];
 
 pub const DEFINITIONS: &[Row<RuleName, Action>] = &[Row {
     at: 0x800000020,
     right: &[Act(Action::NoDefinitions), Rule(RuleName::DefinitionsRest)],
-    then: &[],
+    then: NOTHING,
 }];
 
 pub const DEFINITIONS_REST: &[Row<RuleName, Action>] = &[
     Row {
         at: 0x20,
         right: &[Token(1 << classes::RIGHT_BRACE)],
-        then: &[],
+        then: NOTHING,
     },
     Row {
         at: 0x800000000,
         right: &[Rule(RuleName::Definition), Rule(RuleName::DefinitionsMore)],
-        then: &[],
+        then: NOTHING,
     },
 ];
 
@@ -209,19 +210,19 @@ pub const DEFINITIONS_MORE: &[Row<RuleName, Action>] = &[
             Rule(RuleName::Definition),
             Rule(RuleName::DefinitionsMore),
         ],
-        then: &[],
+        then: NOTHING,
     },
     Row {
         at: 0x20,
         right: &[Token(1 << classes::RIGHT_BRACE)],
-        then: &[],
+        then: NOTHING,
     },
 ];
 
 pub const DEFINITION: &[Row<RuleName, Action>] = &[Row {
     at: 0x800000000,
     right: &[Token(1 << classes::ATOM), Rule(RuleName::DefinitionRest)],
-    then: &[],
+    then: NOTHING,
 }];
 
 pub const DEFINITION_REST: &[Row<RuleName, Action>] = &[
@@ -233,12 +234,12 @@ pub const DEFINITION_REST: &[Row<RuleName, Action>] = &[
             Act(Action::DefinitionWith),
             Rule(RuleName::DefinitionType),
         ],
-        then: &[],
+        then: NOTHING,
     },
     Row {
         at: 0x920,
         right: &[Act(Action::Definition), Rule(RuleName::DefinitionType)],
-        then: &[],
+        then: NOTHING,
     },
 ];
 
@@ -246,12 +247,12 @@ pub const DEFINITION_TYPE: &[Row<RuleName, Action>] = &[
     Row {
         at: 0x800,
         right: &[Token(1 << classes::DOUBLE_COLON), Rule(RuleName::Types)],
-        then: &[],
+        then: NOTHING,
     },
     Row {
         at: 0x120,
         right: &[],
-        then: &[],
+        then: NOTHING,
     },
 ];
 
@@ -259,7 +260,7 @@ pub const TYPES: &[Row<RuleName, Action>] = &[
     Row {
         at: 0xc8c2060057de00,
         right: &[Token(classes::LOOSE_BARE), Rule(RuleName::Types)],
-        then: &[],
+        then: NOTHING,
     },
     Row {
         at: 0x373df9ffa80000,
@@ -268,7 +269,7 @@ pub const TYPES: &[Row<RuleName, Action>] = &[
             Act(Action::Forget),
             Rule(RuleName::Types),
         ],
-        then: &[],
+        then: NOTHING,
     },
     Row {
         at: 0x1,
@@ -279,7 +280,7 @@ pub const TYPES: &[Row<RuleName, Action>] = &[
             Token(1 << classes::RIGHT_PAREN),
             Rule(RuleName::Types),
         ],
-        then: &[],
+        then: NOTHING,
     },
     Row {
         at: 0x4,
@@ -290,7 +291,7 @@ pub const TYPES: &[Row<RuleName, Action>] = &[
             Token(1 << classes::RIGHT_BRACKET),
             Rule(RuleName::Types),
         ],
-        then: &[],
+        then: NOTHING,
     },
     Row {
         at: 0x10,
@@ -301,7 +302,7 @@ pub const TYPES: &[Row<RuleName, Action>] = &[
             Token(1 << classes::RIGHT_BRACE),
             Rule(RuleName::Types),
         ],
-        then: &[],
+        then: NOTHING,
     },
     Row {
         at: 0x40,
@@ -312,12 +313,12 @@ pub const TYPES: &[Row<RuleName, Action>] = &[
             Token(1 << classes::RIGHT_BITS),
             Rule(RuleName::Types),
         ],
-        then: &[],
+        then: NOTHING,
     },
     Row {
         at: 0x120,
         right: &[],
-        then: &[],
+        then: NOTHING,
     },
 ];
 
@@ -325,12 +326,12 @@ pub const BALANCED: &[Row<RuleName, Action>] = &[
     Row {
         at: 0xc8c2060057de00,
         right: &[Token(classes::LOOSE_BARE), Rule(RuleName::Balanced)],
-        then: &[],
+        then: NOTHING,
     },
     Row {
         at: 0x100,
         right: &[Token(1 << classes::COMMA), Rule(RuleName::Balanced)],
-        then: &[],
+        then: NOTHING,
     },
     Row {
         at: 0x373df9ffa80000,
@@ -339,7 +340,7 @@ pub const BALANCED: &[Row<RuleName, Action>] = &[
             Act(Action::Forget),
             Rule(RuleName::Balanced),
         ],
-        then: &[],
+        then: NOTHING,
     },
     Row {
         at: 0x1,
@@ -350,7 +351,7 @@ pub const BALANCED: &[Row<RuleName, Action>] = &[
             Token(1 << classes::RIGHT_PAREN),
             Rule(RuleName::Balanced),
         ],
-        then: &[],
+        then: NOTHING,
     },
     Row {
         at: 0x4,
@@ -361,7 +362,7 @@ pub const BALANCED: &[Row<RuleName, Action>] = &[
             Token(1 << classes::RIGHT_BRACKET),
             Rule(RuleName::Balanced),
         ],
-        then: &[],
+        then: NOTHING,
     },
     Row {
         at: 0x10,
@@ -372,7 +373,7 @@ pub const BALANCED: &[Row<RuleName, Action>] = &[
             Token(1 << classes::RIGHT_BRACE),
             Rule(RuleName::Balanced),
         ],
-        then: &[],
+        then: NOTHING,
     },
     Row {
         at: 0x40,
@@ -383,12 +384,12 @@ pub const BALANCED: &[Row<RuleName, Action>] = &[
             Token(1 << classes::RIGHT_BITS),
             Rule(RuleName::Balanced),
         ],
-        then: &[],
+        then: NOTHING,
     },
     Row {
         at: 0x20aa,
         right: &[],
-        then: &[],
+        then: NOTHING,
     },
 ];
 
@@ -401,17 +402,17 @@ pub const CONSTANT: &[Row<RuleName, Action>] = &[
             Act(Action::Leaf),
             Act(Action::Unary),
         ],
-        then: &[],
+        then: NOTHING,
     },
     Row {
         at: 0x4000000000,
         right: &[Token(1 << classes::INT), Act(Action::Leaf)],
-        then: &[],
+        then: NOTHING,
     },
     Row {
         at: 0x8000000000,
         right: &[Token(1 << classes::CHAR), Act(Action::Leaf)],
-        then: &[],
+        then: NOTHING,
     },
     Row {
         at: 0x10000000000,
@@ -420,12 +421,12 @@ pub const CONSTANT: &[Row<RuleName, Action>] = &[
             Act(Action::Leaf),
             Rule(RuleName::Strings),
         ],
-        then: &[],
+        then: NOTHING,
     },
     Row {
         at: 0x800000000,
         right: &[Token(1 << classes::ATOM), Rule(RuleName::ConstantAtom)],
-        then: &[],
+        then: NOTHING,
     },
     Row {
         at: 0x4,
@@ -434,7 +435,7 @@ pub const CONSTANT: &[Row<RuleName, Action>] = &[
             Act(Action::None),
             Rule(RuleName::ConstantList),
         ],
-        then: &[],
+        then: NOTHING,
     },
     Row {
         at: 0x10,
@@ -443,7 +444,7 @@ pub const CONSTANT: &[Row<RuleName, Action>] = &[
             Act(Action::None),
             Rule(RuleName::ConstantTuple),
         ],
-        then: &[],
+        then: NOTHING,
     },
     Row {
         at: 0x40,
@@ -452,7 +453,7 @@ pub const CONSTANT: &[Row<RuleName, Action>] = &[
             Act(Action::NoSegments),
             Rule(RuleName::ConstantBin),
         ],
-        then: &[],
+        then: NOTHING,
     },
 ];
 
@@ -464,12 +465,12 @@ pub const CONSTANT_ATOM: &[Row<RuleName, Action>] = &[
             Token(1 << classes::INT),
             Act(Action::NameArity),
         ],
-        then: &[],
+        then: NOTHING,
     },
     Row {
         at: 0x2012a,
         right: &[Act(Action::Leaf)],
-        then: &[],
+        then: NOTHING,
     },
 ];
 
@@ -477,7 +478,7 @@ pub const CONSTANT_LIST: &[Row<RuleName, Action>] = &[
     Row {
         at: 0x8,
         right: &[Token(1 << classes::RIGHT_BRACKET), Act(Action::List)],
-        then: &[],
+        then: NOTHING,
     },
     Row {
         at: 0x1c818000054,
@@ -486,7 +487,7 @@ pub const CONSTANT_LIST: &[Row<RuleName, Action>] = &[
             Act(Action::Add),
             Rule(RuleName::ConstantListMore),
         ],
-        then: &[],
+        then: NOTHING,
     },
 ];
 
@@ -499,7 +500,7 @@ pub const CONSTANT_LIST_MORE: &[Row<RuleName, Action>] = &[
             Act(Action::Add),
             Rule(RuleName::ConstantListMore),
         ],
-        then: &[],
+        then: NOTHING,
     },
     Row {
         at: 0x20000,
@@ -509,12 +510,12 @@ pub const CONSTANT_LIST_MORE: &[Row<RuleName, Action>] = &[
             Token(1 << classes::RIGHT_BRACKET),
             Act(Action::ListTo),
         ],
-        then: &[],
+        then: NOTHING,
     },
     Row {
         at: 0x8,
         right: &[Token(1 << classes::RIGHT_BRACKET), Act(Action::List)],
-        then: &[],
+        then: NOTHING,
     },
 ];
 
@@ -522,7 +523,7 @@ pub const CONSTANT_TUPLE: &[Row<RuleName, Action>] = &[
     Row {
         at: 0x20,
         right: &[Token(1 << classes::RIGHT_BRACE), Act(Action::Tuple)],
-        then: &[],
+        then: NOTHING,
     },
     Row {
         at: 0x1c818000054,
@@ -531,7 +532,7 @@ pub const CONSTANT_TUPLE: &[Row<RuleName, Action>] = &[
             Act(Action::Add),
             Rule(RuleName::ConstantTupleMore),
         ],
-        then: &[],
+        then: NOTHING,
     },
 ];
 
@@ -544,12 +545,12 @@ pub const CONSTANT_TUPLE_MORE: &[Row<RuleName, Action>] = &[
             Act(Action::Add),
             Rule(RuleName::ConstantTupleMore),
         ],
-        then: &[],
+        then: NOTHING,
     },
     Row {
         at: 0x20,
         right: &[Token(1 << classes::RIGHT_BRACE), Act(Action::Tuple)],
-        then: &[],
+        then: NOTHING,
     },
 ];
 
@@ -557,7 +558,7 @@ pub const CONSTANT_BIN: &[Row<RuleName, Action>] = &[
     Row {
         at: 0x80,
         right: &[Token(1 << classes::RIGHT_BITS), Act(Action::Bin)],
-        then: &[],
+        then: NOTHING,
     },
     Row {
         at: 0x14000000000,
@@ -565,7 +566,7 @@ pub const CONSTANT_BIN: &[Row<RuleName, Action>] = &[
             Rule(RuleName::ConstantSegment),
             Rule(RuleName::ConstantBinMore),
         ],
-        then: &[],
+        then: NOTHING,
     },
 ];
 
@@ -577,12 +578,12 @@ pub const CONSTANT_BIN_MORE: &[Row<RuleName, Action>] = &[
             Rule(RuleName::ConstantSegment),
             Rule(RuleName::ConstantBinMore),
         ],
-        then: &[],
+        then: NOTHING,
     },
     Row {
         at: 0x80,
         right: &[Token(1 << classes::RIGHT_BITS), Act(Action::Bin)],
-        then: &[],
+        then: NOTHING,
     },
 ];
 
@@ -595,7 +596,7 @@ pub const CONSTANT_SEGMENT: &[Row<RuleName, Action>] = &[
             Act(Action::Segment),
             Act(Action::AddSegment),
         ],
-        then: &[],
+        then: NOTHING,
     },
     Row {
         at: 0x10000000000,
@@ -606,6 +607,6 @@ pub const CONSTANT_SEGMENT: &[Row<RuleName, Action>] = &[
             Act(Action::Segment),
             Act(Action::AddSegment),
         ],
-        then: &[],
+        then: NOTHING,
     },
 ];

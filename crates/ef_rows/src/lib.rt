@@ -7,8 +7,8 @@ mod erlang;
 mod expression_rows;
 mod form_rows;
 mod look;
-mod opened_parts;
 mod opened_rows;
+mod parts;
 mod rows;
 mod single;
 

@@ -1,6 +1,6 @@
 // Rows that are opened ahead: what begins with a rule begins with that rule's row.
 
-use crate::opened_parts as part;
+use crate::parts as part;
 use crate::rows::{Action, RuleName};
 use ef_grammar::Row;
 
@@ -8,7 +8,7 @@ pub const EXPRESSION: &[Row<RuleName, Action>] = &[
     Row {
         at: 0x300000000000,
         right: part::EXPRESSION_1,
-        then: &[],
+        then: part::NOTHING,
     },
     Row {
         at: 0x118000000,
@@ -637,12 +637,12 @@ pub const UNARY: &[Row<RuleName, Action>] = &[
     Row {
         at: 0x118000000,
         right: part::UNARY_1,
-        then: &[],
+        then: part::NOTHING,
     },
     Row {
         at: 0x80000,
         right: part::UNARY_2,
-        then: &[],
+        then: part::NOTHING,
     },
     Row {
         at: 0xf800000000,

@@ -1,6 +1,6 @@
 // The rows of each rule of the grammar.
-ghost use Rattle.std.specs.Prelude.{◌≡◌, map};
-ghost use Rattle.ef_grammar.specs.Shown.{row};
+ghost use Rattle.std.specs.Prelude.{◌≡◌, map, true};
+ghost use Rattle.ef_grammar.specs.Shown.{pass_all, row};
 ghost use Rattle.ef_grammar.specs.Table.{opened_rows};
 ghost use Rattle.ef_rows.specs.Tables as tables;
 
@@ -211,7 +211,8 @@ pub enum Action {
 
 /// The right sides of the rule, those of some rules opened ahead.
 pub fn rows(rule: RuleName) -> &'static [Row<RuleName, Action>]
-    ensures { map row result.now ≡ opened_rows tables.table rule }
+    ensures rows { map row result.now ≡ opened_rows tables.table rule }
+    ensures passed { pass_all tables.table result.now ≡ true }
 {
     match rule {
         RuleName::Expression => opened::EXPRESSION,

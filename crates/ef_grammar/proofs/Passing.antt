@@ -1,13 +1,12 @@
 -- Symbols that come to nothing, and are passed over.
-use Rattle.std.proofs.Common.{◌≡◌, ℕ, zero, suc, ◌+◌, ◌<◌, ◌≤◌, length, slice_index_or, Bool, true, false, ◌&&◌, List, [], ◌∷◌, ◌++◌, Option, Some, None, map, refl, sym, ap, ◌∙◌, subst, eqb, arith}
-use Rattle.std.specs.Prelude.{bit_and, nat_eq}
+use Rattle.std.proofs.Common.{◌≡◌, ℕ, zero, suc, ◌<◌, ◌≤◌, length, slice_index_or, Bool, true, false, ◌&&◌, List, [], ◌∷◌, ◌++◌, Option, Some, None, map, refl, sym, ap, ◌∙◌, subst, arith}
+use Rattle.std.specs.Prelude.{nat_eq}
 use Rattle.std.specs.Int.Bits.{and_zero_l}
-use Rattle.std.specs.Int.{bit_at}
 use Rattle.std.proofs.lemmas.Bool.{eqb-true}
 use Rattle.std.proofs.lemmas.List.{append_assoc}
 use Rattle.std.proofs.lemmas.Nat.Bits.{bit_at-zero}
 use Rattle.ef_grammar.specs.Grammar.{Symbol, Token, Rule, Act, Grammar, Among, first, later, has}
-use Rattle.ef_grammar.specs.Table.{Row, Table, chosen, rights, weight, vanish, nothing_at, of_nothing, within, IsSound}
+use Rattle.ef_grammar.specs.Table.{Row, Table, chosen, rights, weight, vanish, nothing_at, of_nothing, IsSound}
 use Rattle.ef_grammar.specs.Reads.{Gone, Over}
 use Rattle.ef_grammar.specs.Shown.{AllPass, pass_all, symbol, with_next}
 use Rattle.ef_grammar.specs.declared.row.Row.{Row as TheRow}

@@ -136,12 +136,125 @@ size_expression = 511
 abbrev pub not_in_profile : ℕ
 not_in_profile = 512
 
+-- of a use of a macro; the words are its name, or none
+abbrev pub undefined_macro : ℕ
+undefined_macro = 201
+
+abbrev pub wrong_arguments : ℕ
+wrong_arguments = 202
+
+abbrev pub circular_macro : ℕ
+circular_macro = 203
+
+abbrev pub illegal_call : ℕ
+illegal_call = 204
+
+abbrev pub illegal_arguments : ℕ
+illegal_arguments = 205
+
+abbrev pub illegal_stringify : ℕ
+illegal_stringify = 206
+
+abbrev pub too_many_tokens : ℕ
+too_many_tokens = 604
+
+-- of a definition of a macro; the words are its name, or none
+abbrev pub malformed_define : ℕ
+malformed_define = 207
+
+abbrev pub redefined : ℕ
+redefined = 208
+
+abbrev pub predefined : ℕ
+predefined = 209
+
+abbrev pub malformed_undef : ℕ
+malformed_undef = 234
+
+abbrev pub too_many_macros : ℕ
+too_many_macros = 605
+
+-- of a condition, without words
+abbrev pub illegal_condition : ℕ
+illegal_condition = 221
+
+abbrev pub condition_fails : ℕ
+condition_fails = 222
+
+abbrev pub no_boolean : ℕ
+no_boolean = 223
+
+abbrev pub out_of_range : ℕ
+out_of_range = 224
+
+abbrev pub malformed_name_test : ℕ
+malformed_name_test = 235
+
+abbrev pub no_open_condition : ℕ
+no_open_condition = 236
+
+abbrev pub after_else : ℕ
+after_else = 237
+
+abbrev pub condition_not_closed : ℕ
+condition_not_closed = 238
+
+abbrev pub malformed_condition : ℕ
+malformed_condition = 239
+
+-- of the other directives; the words of the second are the text that was written
+abbrev pub malformed_include : ℕ
+malformed_include = 231
+
+abbrev pub error_kept : ℕ
+error_kept = 240
+
+abbrev pub malformed_directive : ℕ
+malformed_directive = 241
+
+abbrev pub include_depth : ℕ
+include_depth = 602
+
+abbrev pub too_many_includes : ℕ
+too_many_includes = 603
+
 -- ---- texts
 
 -- what a fault says, before its words and after them
 pub record Wording : Type 0 where
   pub before : List ℕ
   pub after : List ℕ
+
+-- of macros and directives
+abbrev pub directive_wording : ℕ → Wording
+directive_wording code =
+    if code == undefined_macro then (record { before = codes "undefined macro "; after = [] })
+    else if code == wrong_arguments then (record { before = codes "wrong arguments of macro "; after = [] })
+    else if code == circular_macro then (record { before = codes "circular macro "; after = [] })
+    else if code == illegal_call then (record { before = codes "illegal macro call"; after = [] })
+    else if code == illegal_arguments then (record { before = codes "illegal arguments of macro "; after = [] })
+    else if code == illegal_stringify then (record { before = codes "illegal stringify"; after = [] })
+    else if code == too_many_tokens then (record { before = codes "too many tokens"; after = [] })
+    else if code == malformed_define then (record { before = codes "malformed define"; after = [] })
+    else if code == redefined then (record { before = codes "macro "; after = codes " redefined" })
+    else if code == predefined then (record { before = codes "macro "; after = codes " is predefined" })
+    else if code == malformed_undef then (record { before = codes "malformed undef"; after = [] })
+    else if code == too_many_macros then (record { before = codes "too many macros"; after = [] })
+    else if code == illegal_condition then (record { before = codes "illegal condition"; after = [] })
+    else if code == condition_fails then (record { before = codes "condition fails"; after = [] })
+    else if code == no_boolean then (record { before = codes "condition is no boolean"; after = [] })
+    else if code == out_of_range then (record { before = codes "condition out of range"; after = [] })
+    else if code == malformed_name_test then (record { before = codes "malformed condition"; after = [] })
+    else if code == no_open_condition then (record { before = codes "no open condition"; after = [] })
+    else if code == after_else then (record { before = codes "after else"; after = [] })
+    else if code == condition_not_closed then (record { before = codes "condition not closed"; after = [] })
+    else if code == malformed_condition then (record { before = codes "malformed condition"; after = [] })
+    else if code == malformed_include then (record { before = codes "malformed include"; after = [] })
+    else if code == error_kept then (record { before = codes "-error: "; after = [] })
+    else if code == malformed_directive then (record { before = codes "malformed directive"; after = [] })
+    else if code == include_depth then (record { before = codes "include depth"; after = [] })
+    else if code == too_many_includes then (record { before = codes "too many includes"; after = [] })
+    else record { before = []; after = [] }
 
 abbrev pub wording : ℕ → Wording
 wording code =
@@ -188,4 +301,4 @@ wording code =
     else if code == too_many_functions then (record { before = codes "too many functions"; after = [] })
     else if code == function_too_large then (record { before = codes "function too large"; after = [] })
     else if code == too_many_arguments then (record { before = codes "too many arguments"; after = [] })
-    else record { before = []; after = [] }
+    else directive_wording code

@@ -1,6 +1,7 @@
 //! The table of faults: the code of each, and what is printed behind it. A code of this table stands nowhere else.
 ghost use Rattle.std.specs.Prelude.{◌≡◌};
 ghost use Rattle.ef_base.specs.FaultTable.{wording};
+ghost use Rattle.ef_base.specs.FaultTable as table;
 
 // Of scanning, without words.
 pub const NOT_UTF8: u16 = 101;
@@ -94,6 +95,62 @@ pub const SIZE_EXPRESSION: u16 = 511;
 
 pub const NOT_IN_PROFILE: u16 = 512;
 
+// Of a use of a macro; the words are its name, or none.
+pub const UNDEFINED_MACRO: u16 = 201;
+
+pub const WRONG_ARGUMENTS: u16 = 202;
+
+pub const CIRCULAR_MACRO: u16 = 203;
+
+pub const ILLEGAL_CALL: u16 = 204;
+
+pub const ILLEGAL_ARGUMENTS: u16 = 205;
+
+pub const ILLEGAL_STRINGIFY: u16 = 206;
+
+pub const TOO_MANY_TOKENS: u16 = 604;
+
+// Of a definition of a macro; the words are its name, or none.
+pub const MALFORMED_DEFINE: u16 = 207;
+
+pub const REDEFINED: u16 = 208;
+
+pub const PREDEFINED: u16 = 209;
+
+pub const MALFORMED_UNDEF: u16 = 234;
+
+pub const TOO_MANY_MACROS: u16 = 605;
+
+// Of a condition, without words.
+pub const ILLEGAL_CONDITION: u16 = 221;
+
+pub const CONDITION_FAILS: u16 = 222;
+
+pub const NO_BOOLEAN: u16 = 223;
+
+pub const OUT_OF_RANGE: u16 = 224;
+
+pub const MALFORMED_NAME_TEST: u16 = 235;
+
+pub const NO_OPEN_CONDITION: u16 = 236;
+
+pub const AFTER_ELSE: u16 = 237;
+
+pub const CONDITION_NOT_CLOSED: u16 = 238;
+
+pub const MALFORMED_CONDITION: u16 = 239;
+
+// Of the other directives; the words of the second are the text that was written.
+pub const MALFORMED_INCLUDE: u16 = 231;
+
+pub const ERROR_KEPT: u16 = 240;
+
+pub const MALFORMED_DIRECTIVE: u16 = 241;
+
+pub const INCLUDE_DEPTH: u16 = 602;
+
+pub const TOO_MANY_INCLUDES: u16 = 603;
+
 /// What a fault says, before its words and after them.
 #[derive(Clone, Copy)]
 pub struct Wording {
@@ -150,6 +207,43 @@ pub fn wording_of(code: u16) -> Wording
         TOO_MANY_FUNCTIONS => (b"too many functions", b""),
         FUNCTION_TOO_LARGE => (b"function too large", b""),
         TOO_MANY_ARGUMENTS => (b"too many arguments", b""),
+        _ => return directive_wording(code),
+    };
+    Wording { before, after }
+}
+
+/// What the fault of this code says, if it is one of macros and directives.
+fn directive_wording(code: u16) -> Wording
+    ensures before { result.before.now ≡ (table.directive_wording code).before }
+    ensures after { result.after.now ≡ (table.directive_wording code).after }
+{
+    let (before, after): (&[u8], &[u8]) = match code {
+        UNDEFINED_MACRO => (b"undefined macro ", b""),
+        WRONG_ARGUMENTS => (b"wrong arguments of macro ", b""),
+        CIRCULAR_MACRO => (b"circular macro ", b""),
+        ILLEGAL_CALL => (b"illegal macro call", b""),
+        ILLEGAL_ARGUMENTS => (b"illegal arguments of macro ", b""),
+        ILLEGAL_STRINGIFY => (b"illegal stringify", b""),
+        TOO_MANY_TOKENS => (b"too many tokens", b""),
+        MALFORMED_DEFINE => (b"malformed define", b""),
+        REDEFINED => (b"macro ", b" redefined"),
+        PREDEFINED => (b"macro ", b" is predefined"),
+        MALFORMED_UNDEF => (b"malformed undef", b""),
+        TOO_MANY_MACROS => (b"too many macros", b""),
+        ILLEGAL_CONDITION => (b"illegal condition", b""),
+        CONDITION_FAILS => (b"condition fails", b""),
+        NO_BOOLEAN => (b"condition is no boolean", b""),
+        OUT_OF_RANGE => (b"condition out of range", b""),
+        MALFORMED_NAME_TEST => (b"malformed condition", b""),
+        NO_OPEN_CONDITION => (b"no open condition", b""),
+        AFTER_ELSE => (b"after else", b""),
+        CONDITION_NOT_CLOSED => (b"condition not closed", b""),
+        MALFORMED_CONDITION => (b"malformed condition", b""),
+        MALFORMED_INCLUDE => (b"malformed include", b""),
+        ERROR_KEPT => (b"-error: ", b""),
+        MALFORMED_DIRECTIVE => (b"malformed directive", b""),
+        INCLUDE_DEPTH => (b"include depth", b""),
+        TOO_MANY_INCLUDES => (b"too many includes", b""),
         _ => (b"", b""),
     };
     Wording { before, after }

@@ -17,7 +17,6 @@ use ef_base::codes::{LATIN, NO_FULL_STOP};
 use ef_base::{Fault, NoMemory, Place};
 use ef_token::{ScannedForm, Token, TokenKind};
 use std::alloc::Global;
-use std::mem;
 
 /// Forms that are ended or faulty, the tokens of one that is neither yet, and the place of the first comment that names
 /// Latin-1.
@@ -49,7 +48,7 @@ impl Gathered {
         if !ends {
             return Ok(());
         }
-        let form = mem::replace(&mut self.open_form, Vec::new(alloc));
+        let form = take_all(alloc, &mut self.open_form)?;
         self.done.push(ScannedForm::Tokens(form))?;
         Ok(())
     }
@@ -107,6 +106,15 @@ impl Gathered {
             None => None,
         }
     }
+}
+
+// Moves the tokens into a vector of just their number; the room of the first one is kept for the next form.
+fn take_all(alloc: Global, tokens: &mut Vec<Token>) -> Result<Vec<Token>, NoMemory>
+    ensures { IfOk result (λ all. (all.items ≡ tokens.old.items) × (tokens.new.items ≡ [])) }
+{
+    let mut all = Vec::with_capacity(alloc, tokens.len())?;
+    all.append(tokens)?;
+    Ok(all)
 }
 
 fn is_dot(kind: &TokenKind) -> bool

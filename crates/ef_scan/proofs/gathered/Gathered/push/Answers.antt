@@ -9,4 +9,4 @@ returns-then-not-ends c = λ all file parts p l e place is h.
 
 pub returns : goal.returns
 returns c = λ all file parts p l e place is h.
-    gathers_form all file c.args.self.now _ parts p h l c.args.token (Tokens c.replace-form.result) e place is (c.is_dot-ends.ensures.0 c.if-not-ends.false) ((search rules), tt) (search rules) (search rules) refl
+    gathers_form all file c.args.self.now _ parts p h l c.args.token (Tokens c.in_ok-form.form) e place is (c.is_dot-ends.ensures.0 c.if-not-ends.false) ((search rules), tt) (search rules) (search rules) refl

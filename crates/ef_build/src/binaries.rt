@@ -8,6 +8,7 @@ ghost use Rattle.ef_build.specs.Values.{open_segment_of, qualifiers_of, shown};
 ghost use Rattle.ef_build.specs.Parts.{qualifier_part};
 
 use crate::leaf::number_in;
+use crate::lists::put_last;
 use crate::stack::{Read, deeper};
 use crate::value::{OpenSegment, Operator, Qualifiers, Segments, Value};
 use ef_forms::{Expr, Node, Qualifier, Segment, TypeWord};
@@ -162,12 +163,13 @@ pub fn add_segment(read: &mut Read) -> Result<bool, AllocError>
         types,
         ..
     } = last;
-    segments.segments.push(Segment {
+    let segment = Segment {
         place,
         value: Box::into_inner(value),
         size: unboxed(size),
         types,
-    })?;
+    };
+    put_last(&mut segments.segments, segment)?;
     segments.nest = nest;
     read.put(Value::Segments(segments))
 }
@@ -193,7 +195,7 @@ fn qualified(
 ) -> Result<bool, AllocError>
     ensures { IfOk result (λ ok. acted ok (shown read.new) ≡ c.qualified (qualifiers_of before) (qualifier_part qualifier) nest (shown read.old)) }
 {
-    before.qualifiers.push(qualifier)?;
+    put_last(&mut before.qualifiers, qualifier)?;
     before.nest = before.nest.max(deeper(before.levels, nest));
     before.levels = deeper(before.levels, 1);
     read.put(Value::Qualifiers(before))

@@ -9,6 +9,7 @@ ghost use Rattle.ef_build.specs.Values as v;
 ghost use Rattle.ef_build.specs.Values.{clauses_of, shown};
 
 use crate::leaf::variable_in;
+use crate::lists::put_last;
 use crate::stack::Read;
 use crate::value::{Clauses, Guard, Head, Items, Value};
 use ef_base::codes::{FUN_HEAD_MISMATCH, HEAD_MISMATCH};
@@ -40,7 +41,7 @@ pub fn add_guard(read: &mut Read) -> Result<bool, AllocError>
         drop(tests);
         return Ok(false);
     };
-    guard.tests.push(tests.exprs)?;
+    put_last(&mut guard.tests, tests.exprs)?;
     guard.start = guard.start.or(tests.start);
     guard.nest = guard.nest.max(tests.nest);
     read.put(Value::Guard(guard))
@@ -68,7 +69,7 @@ fn with_clause(
 ) -> Result<bool, AllocError>
     ensures { IfOk result (λ ok. acted ok (shown read.new) ≡ c.with_clause (clauses_of before) (plain_clause clause) first nest (shown read.old)) }
 {
-    before.clauses.push(clause)?;
+    put_last(&mut before.clauses, clause)?;
     before.first = first;
     before.nest = before.nest.max(nest);
     read.put(Value::Clauses(before))
@@ -100,7 +101,7 @@ pub fn clause(alloc: Global, read: &mut Read) -> Result<bool, AllocError>
     let nest = pattern.nest.max(guard.nest).max(body.nest);
     let place = pattern.start;
     let mut patterns = Vec::new(alloc);
-    patterns.push(pattern.expr)?;
+    put_last(&mut patterns, pattern.expr)?;
     let first = before.first;
     let clause = Clause {
         place,

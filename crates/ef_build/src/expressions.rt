@@ -5,6 +5,7 @@ ghost use Rattle.ef_build.specs.Expressions as e;
 ghost use Rattle.ef_build.specs.Values.{shown};
 
 use crate::leaf::{between, in_front, leaf_node, number_in};
+use crate::lists::put_last;
 use crate::stack::{Read, boxed};
 use crate::value::{Items, Value};
 use ef_forms::{Expr, Node};
@@ -221,18 +222,6 @@ pub fn none(alloc: Global, read: &mut Read) -> Result<bool, AllocError>
         start: None,
         nest: 0,
     }))
-}
-
-// Puts one more element at the end. A vector of one element has no room for more.
-fn put_last(exprs: &mut Vec<Expr>, last: Expr) -> Result<(), AllocError>
-    ensures { OnOk result (exprs.new.items ≡ exprs.old.items ++ last ∷ []) }
-{
-    if exprs.is_empty() && exprs.reserve_exact(1).is_err() {
-        drop(last);
-        return Err(AllocError);
-    }
-    exprs.push(last)?;
-    Ok(())
 }
 
 /// One more expression.

@@ -9,6 +9,7 @@ mod constructs;
 mod expressions;
 mod forms;
 mod leaf;
+mod lists;
 mod records;
 mod stack;
 mod tokens;

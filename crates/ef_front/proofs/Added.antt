@@ -13,8 +13,8 @@ use Rattle.ef_forms.specs.declared.form.PlacedForm.{PlacedForm}
 use Rattle.ef_forms.specs.OfTable.{FormOf, FormsOf}
 use Rattle.ef_forms.specs.Plain.{plain_placed, plain_form}
 use Rattle.ef_forms.specs.Tree.{FunctionTree}
-use Rattle.ef_module.specs.Adds.{Adds, where_}
-use Rattle.ef_module.proofs.Adding.{adds_none, adds_one}
+use Rattle.ef_profile.specs.Adds.{Adds, where_}
+use Rattle.ef_profile.proofs.Adding.{adds_none, adds_one}
 use Rattle.ef_front.specs.Sizes.{is_too_large}
 use Rattle.ef_front.specs.Source.{form_faults, forms_faults, size_faults}
 

@@ -12,7 +12,7 @@ use Rattle.ef_token.specs.TokenForm.{AllTokensOf, AreForms}
 use Rattle.ef_scan.specs.Scan.{Form, Scans, ScansTo, IsScanned}
 use Rattle.ef_forms.specs.Tree.{ModuleTree}
 use Rattle.ef_forms.specs.Built.{Each, IsBuilt, functions_in}
-use Rattle.ef_module.specs.Adds.{Adds}
+use Rattle.ef_profile.specs.Adds.{Adds}
 use Rattle.ef_module.specs.Modules.{ReadsModule, ModuleFaults, IsModule, AreModuleFaults}
 use Rattle.ef_lowmod.specs.Function.{IsLight, IsNarrowFunction, IsWhole, HasNoFault}
 use Rattle.ef_front.specs.declared.compiling.Compiled.{Compiled}

@@ -11,7 +11,7 @@ use Rattle.ef_token.specs.declared.token.Token.{Token}
 use Rattle.ef_token.specs.TokenForm.{AreForms}
 use Rattle.ef_parse.specs.Spelled.{start_of}
 use Rattle.ef_module.specs.Modules.{lists}
-use Rattle.ef_module.proofs.Adding.{adds_none, adds_one, adds_then}
+use Rattle.ef_profile.proofs.Adding.{adds_none, adds_one, adds_then}
 use Rattle.ef_front.specs.Compiles.{AreSplit}
 use Rattle.ef_front.specs.LeftOut.{is_left_out, kept, left_out_faults}
 use Rattle.ef_front.proofs.Taken.{lists_more}

@@ -20,7 +20,7 @@ use Rattle.ef_forms.specs.Views.{heads, arguments, segments_of}
 use Rattle.ef_parse.specs.Spelled.{start_of}
 use Rattle.ef_module.specs.Forms.{ReadsForm}
 use Rattle.ef_module.specs.Modules.{ReadsForms, no_forms, read, faulty}
-use Rattle.ef_module.specs.Unbuilt.{node_faults, head_faults, tree_faults, too_many, float_faults, map_faults, segment_faults, size_faults, argument_faults, call_faults}
+use Rattle.ef_profile.specs.Unbuilt.{node_faults, head_faults, tree_faults, too_many, float_faults, map_faults, segment_faults, size_faults, argument_faults, call_faults}
 use Rattle.ef_lowmod.specs.Function.{IsNarrowFunction}
 use Rattle.ef_front.proofs.Small.{at_most, each_joined, each_parted, none_first, not_one}
 use Rattle.ef_front.proofs.Whole.{kept_functions}

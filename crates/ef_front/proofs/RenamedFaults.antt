@@ -13,7 +13,7 @@ use Rattle.ef_forms.specs.Tree.{Tree, Shape, Trees, Guards, Clauses, FunctionTre
 use Rattle.ef_forms.specs.Ways.{NameSet, Way, no_names, one_name, union, bind, or_else, before, beside, ways, shape_ways, side_by_side, body_ways, clauses_ways, names, shape_names, all_names, guards_names, clauses_names, on_some, on_all, use_faults, name_faults, pattern_faults, pattern_shape_faults, patterns_faults, pattern_guards_faults, pattern_clauses_faults, faults, shape_faults, all_faults, body_faults, guards_faults, clauses_faults}
 use Rattle.ef_forms.proofs.Renamed.{renamed_tree, renamed_shape, renamed_all, renamed_guards, renamed_clauses, renamed_function, renamed_form, renamed_placed}
 use Rattle.ef_front.proofs.RenamedSizes.{function_depth_stays, function_weight_stays}
-use Rattle.ef_module.specs.Adds.{where_}
+use Rattle.ef_profile.specs.Adds.{where_}
 use Rattle.ef_rows.proofs.Renamed.{Renames}
 use Rattle.ef_front.specs.Source.{most_depth, most_weight, size_faults, form_faults, forms_faults}
 

@@ -15,7 +15,7 @@ use Rattle.ef_token.specs.TokenForm.{KindOf, TokensOf, AllTokensOf}
 use Rattle.ef_build.proofs.RenamedTokens.{renamed_kind, renamed_token}
 use Rattle.ef_rows.proofs.Renamed.{Renames}
 use Rattle.ef_parse.specs.Spelled.{start_of}
-use Rattle.ef_module.specs.Kinds.{is_minus}
+use Rattle.ef_profile.specs.Kinds.{is_minus}
 use Rattle.ef_module.proofs.RenamedFaults.{start_stays}
 use Rattle.ef_front.specs.LeftOut.{directives, is_directive, begins_directive, is_question, is_left_out, kept, left_out_faults}
 

@@ -12,7 +12,7 @@ use Rattle.ef_forms.specs.Depth.{function_depth}
 use Rattle.ef_forms.specs.Tree.{FunctionTree, FormTree, PlacedTree, module_name, export, import, record_of, attribute, dropped, export_all, function}
 use Rattle.ef_forms.specs.Ways.{function_faults}
 use Rattle.ef_forms.specs.Weight.{function_weight}
-use Rattle.ef_module.specs.Adds.{where_}
+use Rattle.ef_profile.specs.Adds.{where_}
 use Rattle.ef_lowmod.specs.Function.{IsLight, HasNoFault}
 use Rattle.ef_front.specs.Source.{most_depth, most_weight, size_faults, form_faults, forms_faults}
 

@@ -32,7 +32,7 @@ use Rattle.ef_rows.specs.declared.rows.RuleName.{RuleName}
 use Rattle.ef_rows.specs.Erlang.{act, grammar}
 use Rattle.ef_parse.specs.Spelled.{SpellsForm}
 use Rattle.ef_module.specs.Forms.{ReadsForm, kept}
-use Rattle.ef_module.specs.Kinds.{kind_of}
+use Rattle.ef_profile.specs.Kinds.{kind_of}
 use Rattle.ef_module.specs.Modules.{ReadsForms, no_forms, read, faulty}
 use Rattle.ef_lowmod.specs.Function.{IsWhole}
 use Rattle.ef_front.proofs.Small.{each_joined}

@@ -10,7 +10,7 @@ use Rattle.ef_token.specs.declared.token.ScannedForm.{ScannedForm}
 use Rattle.ef_token.specs.declared.token.ScannedForm.TheVariants.{Tokens, Faulty as faulty_form}
 use Rattle.ef_forms.specs.Tree.{ModuleTree}
 use Rattle.ef_forms.specs.Built.{IsBuilt}
-use Rattle.ef_module.specs.Adds.{Adds}
+use Rattle.ef_profile.specs.Adds.{Adds}
 use Rattle.ef_module.specs.Modules.{ReadsModule, ModuleFaults, IsModule}
 use Rattle.ef_core.specs.Plain.{plain_module}
 use Rattle.ef_core.specs.Readable.{IsReadable}

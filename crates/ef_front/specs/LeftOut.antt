@@ -10,7 +10,7 @@ use Rattle.ef_token.specs.declared.token.TokenKind.{TokenKind}
 use Rattle.ef_token.specs.declared.token.TokenKind.TheVariants as kind
 use Rattle.ef_token.specs.declared.word.Sym.TheVariants as sym
 use Rattle.ef_token.specs.declared.word.Word.TheVariants as word
-use Rattle.ef_module.specs.Kinds.{is_minus}
+use Rattle.ef_profile.specs.Kinds.{is_minus}
 use Rattle.ef_parse.specs.Spelled.{start_of}
 
 abbrev pub directives : List (List ℕ)

@@ -15,7 +15,7 @@ use Rattle.ef_forms.specs.Depth.{function_depth}
 use Rattle.ef_forms.specs.Weight.{function_weight}
 use Rattle.ef_forms.specs.Ways.{function_faults}
 use Rattle.ef_module.specs.Modules.{ReadsModule, ModuleFaults}
-use Rattle.ef_module.specs.Adds.{where_}
+use Rattle.ef_profile.specs.Adds.{where_}
 use Rattle.ef_front.specs.LeftOut.{left_out_faults, kept}
 use Rattle.ef_front.specs.Written.{IsWritten}
 

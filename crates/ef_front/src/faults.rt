@@ -4,7 +4,7 @@ ghost use Rattle.ef_base.specs.Faults.{set_of};
 ghost use Rattle.ef_base.specs.Texts.{Extends, Texts};
 ghost use Rattle.ef_forms.specs.OfTable.{FormOf, FormsOf, ModuleOf};
 ghost use Rattle.ef_forms.specs.Plain.{plain_form, plain_function, plain_module, plain_placed};
-ghost use Rattle.ef_module.specs.Adds.{Adds};
+ghost use Rattle.ef_profile.specs.Adds.{Adds};
 ghost use Rattle.ef_front.specs.Source.{form_faults, forms_faults, module_faults, size_faults};
 
 use crate::sizes::is_too_large;

@@ -4,7 +4,7 @@ ghost use Rattle.std.specs.declared.alloc.Global.{Global as TheGlobal};
 ghost use Rattle.ef_base.specs.declared.fault.Fault.{Fault as TheFault};
 ghost use Rattle.std.specs.List.{list_any};
 ghost use Rattle.std.specs.Str.{bytes_eq};
-ghost use Rattle.ef_module.specs.Kinds.{is_minus as begins_attribute};
+ghost use Rattle.ef_profile.specs.Kinds.{is_minus as begins_attribute};
 ghost use Rattle.ef_module.specs.Modules.{lists};
 ghost use Rattle.ef_token.specs.declared.token.Token.{Token as TheToken};
 ghost use Rattle.ef_front.specs.Compiles.{AreSplit};

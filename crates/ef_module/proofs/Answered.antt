@@ -9,9 +9,9 @@ use Rattle.ef_forms.specs.Tree.{FormTree}
 use Rattle.ef_parse.specs.Spelled as s
 use Rattle.ef_parse.specs.Spelled.{start_of, SpellsForm, IsDeepForm, IsNoForm}
 use Rattle.ef_module.specs.Forms.{FormFaults, IsForm, AreFormFaults, kept, of_tokens, is_not_spelled, is_too_deep, of_tree}
-use Rattle.ef_module.specs.Kinds.{kind_of, not_spelled}
+use Rattle.ef_profile.specs.Kinds.{kind_of, not_spelled}
 use Rattle.ef_module.specs.Refused.{token_faults}
-use Rattle.ef_module.specs.Unbuilt.{tree_faults}
+use Rattle.ef_profile.specs.Unbuilt.{tree_faults}
 use Rattle.ef_module.proofs.Sets.{no_fault, first_none, second_none, some_written}
 
 module _ (all : Texts) (ts : List Token) where

@@ -11,11 +11,11 @@ use Rattle.ef_forms.specs.Tree.{FormTree}
 use Rattle.ef_parse.specs.declared.spelled.FormKind.{FormKind}
 use Rattle.ef_parse.specs.Spelled as s
 use Rattle.ef_parse.specs.Spelled.{start_of, SpellsForm, IsDeepForm, IsNoForm}
-use Rattle.ef_module.specs.Adds.{Adds}
+use Rattle.ef_profile.specs.Adds.{Adds}
 use Rattle.ef_module.specs.Forms.{IsForm, AreFormFaults, kept}
-use Rattle.ef_module.specs.Kinds.{kind_of, not_spelled}
+use Rattle.ef_profile.specs.Kinds.{kind_of, not_spelled}
 use Rattle.ef_module.specs.Refused.{token_faults}
-use Rattle.ef_module.specs.Unbuilt.{tree_faults}
+use Rattle.ef_profile.specs.Unbuilt.{tree_faults}
 use Rattle.ef_module.proofs.Answered.{tokens_faulty, no_form, deep_form, form_faulty, form_read}
 use Rattle.ef_module.proofs.Later.{same_kind, same_token_faults, same_not_spelled, same_tree_faults, same_kept, kept_of}
 use Rattle.ef_module.proofs.Sets.{none_written}

@@ -21,12 +21,12 @@ use Rattle.ef_forms.specs.Tree.{tree, int, character, string, atom, var, any, li
 use Rattle.ef_forms.specs.Views.{SegmentTree, atom_of, operator, place_of, call_by_name, segments_of, segment_list}
 use Rattle.ef_parse.specs.declared.spelled.FormKind.TheVariants as is
 use Rattle.ef_parse.specs.Spelled.{start_of}
-use Rattle.ef_module.specs.Adds.{where_}
+use Rattle.ef_profile.specs.Adds.{where_}
 use Rattle.ef_module.specs.Forms.{is_compile, kept}
-use Rattle.ef_module.specs.Kinds.{is_minus, atom_in, is_attribute, attribute_name, named_kind, kind_of, malformed, named_fault, not_spelled, word_kind}
+use Rattle.ef_profile.specs.Kinds.{is_minus, atom_in, is_attribute, attribute_name, named_kind, kind_of, malformed, named_fault, not_spelled, word_kind}
 use Rattle.ef_module.specs.Refused.{kind_faults, token_faults}
-use Rattle.ef_module.specs.Unbuilt as u
-use Rattle.ef_module.specs.Unbuilt.{FunctionText, mentions, tree_faults}
+use Rattle.ef_profile.specs.Unbuilt as u
+use Rattle.ef_profile.specs.Unbuilt.{FunctionText, mentions, tree_faults}
 use Rattle.ef_module.proofs.NodesOf.{EachOf, form_nodes_of}
 
 module _ (now all : Texts) (later : Extends now all) where

@@ -1,6 +1,4 @@
-pub mod Adding
 pub mod Depths
-pub mod Places
 pub mod NodesOf
 pub mod Later
 pub mod Sets

@@ -19,7 +19,7 @@ use Rattle.ef_forms.specs.Plain.{plain_form, plain_placed}
 use Rattle.ef_forms.specs.Tree.{FormTree, PlacedTree, ModuleTree, module_name, export, import, record_of, attribute, dropped, export_all, function}
 use Rattle.ef_forms.specs.OfTable.{FormOf, FormsOf, ModuleOf}
 use Rattle.ef_parse.specs.Spelled.{start_of}
-use Rattle.ef_module.specs.Adds.{where_}
+use Rattle.ef_profile.specs.Adds.{where_}
 use Rattle.ef_module.specs.Forms as f
 use Rattle.ef_module.specs.Forms.{AreFormFaults}
 use Rattle.ef_module.specs.Found as a

@@ -12,9 +12,9 @@ use Rattle.ef_rows.specs.Makes.{Makes}
 use Rattle.ef_rows.proofs.Renamed.{one_made, form_made}
 use Rattle.ef_parse.specs.Spelled.{start_of, start_for}
 use Rattle.ef_module.specs.Forms.{FormFaults, ReadsForm, kept, of_tokens, is_not_spelled, is_too_deep, of_tree}
-use Rattle.ef_module.specs.Kinds.{kind_of}
+use Rattle.ef_profile.specs.Kinds.{kind_of}
 use Rattle.ef_module.specs.Modules.{ReadsForms, no_forms, read, faulty, order_faults, first_name, ReadsModule, ModuleFaults}
-use Rattle.ef_module.specs.Unbuilt.{tree_faults}
+use Rattle.ef_profile.specs.Unbuilt.{tree_faults}
 use Rattle.ef_module.proofs.Later.{kept_of}
 
 -- ---- one form

@@ -16,9 +16,9 @@ use Rattle.ef_parse.specs.Spelled.{start_of, SpellsForm, IsDeepForm, IsNoForm}
 use Rattle.ef_parse.proofs.Renamed.{renamed_token, Renames, renaming, renaming_renames, AreRenamed, spells_form, deep_form, no_form}
 use Rattle.ef_parse.proofs.Renamed as names
 use Rattle.ef_module.specs.Forms.{FormFaults, of_tokens, is_not_spelled, is_too_deep, of_tree, ReadsForm}
-use Rattle.ef_module.specs.Kinds.{kind_of}
+use Rattle.ef_profile.specs.Kinds.{kind_of}
 use Rattle.ef_module.specs.Modules.{ReadsForms, no_forms, read, faulty, module_named, is_module, is_module_kind, begins_module, seconds, has_module, before_module, no_module_faults, module_faults, is_function, late_word, late_fault, late_faults, number_faults, attribute_faults, order_faults, most_functions, first_name, ReadsModule, ModuleFaults}
-use Rattle.ef_module.specs.Unbuilt.{tree_faults}
+use Rattle.ef_profile.specs.Unbuilt.{tree_faults}
 use Rattle.ef_module.proofs.Later.{kept_of}
 use Rattle.ef_module.proofs.RenamedFaults.{joined, start_stays, kind_stays, token_faults_stay, not_spelled_stays, tree_faults_stay, kept_stays}
 

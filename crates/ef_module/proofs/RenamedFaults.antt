@@ -26,12 +26,12 @@ use Rattle.ef_parse.specs.declared.spelled.FormKind.{FormKind}
 use Rattle.ef_parse.specs.declared.spelled.FormKind.TheVariants as is
 use Rattle.ef_parse.specs.Spelled.{start_of}
 use Rattle.ef_parse.proofs.Renamed.{renamed_kind, renamed_token, Renames}
-use Rattle.ef_module.specs.Adds.{where_}
+use Rattle.ef_profile.specs.Adds.{where_}
 use Rattle.ef_module.specs.Forms.{is_compile, kept}
-use Rattle.ef_module.specs.Kinds.{is_minus, atom_in, is_attribute, attribute_name, named_kind, kind_of, named_fault, not_spelled, word_kind}
+use Rattle.ef_profile.specs.Kinds.{is_minus, atom_in, is_attribute, attribute_name, named_kind, kind_of, named_fault, not_spelled, word_kind}
 use Rattle.ef_module.specs.Refused.{opens_map, refused_code, refusal, behind, outside, refused_from, kind_faults, token_faults}
-use Rattle.ef_module.specs.Unbuilt as u
-use Rattle.ef_module.specs.Unbuilt.{FunctionText, mentions, tree_faults}
+use Rattle.ef_profile.specs.Unbuilt as u
+use Rattle.ef_profile.specs.Unbuilt.{FunctionText, mentions, tree_faults}
 use Rattle.ef_module.proofs.NodesOf.{EachOf, form_nodes_of}
 
 pub joined : {us vs ss ts : List Fault} → us ≡ ss → vs ≡ ts → us ++ vs ≡ ss ++ ts

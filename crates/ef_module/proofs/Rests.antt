@@ -8,10 +8,10 @@ use Rattle.ef_base.specs.NamedFaults.{plain}
 use Rattle.ef_token.specs.declared.token.Token.{Token}
 use Rattle.ef_forms.specs.declared.form.PlacedForm.{PlacedForm}
 use Rattle.ef_forms.specs.Plain.{plain_placed}
-use Rattle.ef_module.specs.Adds.{Adds}
+use Rattle.ef_profile.specs.Adds.{Adds}
 use Rattle.ef_module.specs.Modules.{second_form, seconds, is_module, late_form, late_faults, is_function, number_faults}
 use Rattle.ef_module.specs.Refused.{outside, refused, refused_from, behind}
-use Rattle.ef_module.proofs.Adding.{adds_none, adds_then}
+use Rattle.ef_profile.proofs.Adding.{adds_none, adds_then}
 
 pub front_range : {A : Type 0} (xs : List A) (x : A) → 1 ≤ length xs → x ≡ get_or xs 0 x → xs ≡ x ∷ slice_range xs 1 (length xs)
 front_range [] x some is = absurd (omega arith)

@@ -10,9 +10,9 @@ use Rattle.ef_forms.specs.Tree.{FormTree, attribute, dropped, export_all}
 use Rattle.ef_parse.specs.Spelled.{start_of, IsDeepForm, IsNoForm, SpellsForm}
 use Rattle.ef_module.specs.declared.forms.FormRefusal.{FormRefusal}
 use Rattle.ef_module.specs.declared.forms.FormRefusal.TheVariants.{Faulty, NoMemory}
-use Rattle.ef_module.specs.Kinds.{kind_of, not_spelled}
+use Rattle.ef_profile.specs.Kinds.{kind_of, not_spelled}
 use Rattle.ef_module.specs.Refused.{token_faults}
-use Rattle.ef_module.specs.Unbuilt.{is_text, mentions, tree_faults}
+use Rattle.ef_profile.specs.Unbuilt.{is_text, mentions, tree_faults}
 
 abbrev pub is_compile : Texts → FormTree → Bool
 is_compile all (attribute n e) = is_text all (codes "compile") n

@@ -16,9 +16,9 @@ use Rattle.ef_parse.specs.declared.spelled.FormKind.{FormKind}
 use Rattle.ef_parse.specs.Spelled.{start_of}
 use Rattle.ef_module.specs.declared.forms.FormRefusal.{FormRefusal}
 use Rattle.ef_module.specs.declared.forms.FormRefusal.TheVariants.{Faulty, NoMemory}
-use Rattle.ef_module.specs.Adds.{where_}
+use Rattle.ef_profile.specs.Adds.{where_}
 use Rattle.ef_module.specs.Forms.{FormFaults, ReadsForm}
-use Rattle.ef_module.specs.Kinds.{kind_of}
+use Rattle.ef_profile.specs.Kinds.{kind_of}
 
 abbrev pub most_functions : ℕ
 most_functions = 65536

@@ -12,7 +12,7 @@ use Rattle.ef_token.specs.declared.token.TokenKind.TheVariants as kind
 use Rattle.ef_token.specs.declared.word.Sym.TheVariants as sym
 use Rattle.ef_parse.specs.declared.spelled.FormKind.{FormKind}
 use Rattle.ef_parse.specs.declared.spelled.FormKind.TheVariants as is
-use Rattle.ef_module.specs.Kinds.{kind_of}
+use Rattle.ef_profile.specs.Kinds.{kind_of}
 
 abbrev pub opens : TokenKind → Bool
 opens (kind.Sym sym.LeftParen) = true

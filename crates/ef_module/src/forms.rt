@@ -6,20 +6,18 @@ ghost use Rattle.ef_forms.specs.OfTable.{FormOf};
 ghost use Rattle.ef_forms.specs.Plain.{plain_form};
 ghost use Rattle.ef_parse.specs.Spelled as s;
 ghost use Rattle.ef_token.specs.TokenForm.{IsForm, TokensOf};
-ghost use Rattle.ef_module.specs.Adds.{Adds};
+ghost use Rattle.ef_profile.specs.Adds.{Adds};
 ghost use Rattle.ef_module.specs.Forms as f;
 ghost use Rattle.ef_module.specs.Found.{IsFound};
-ghost use Rattle.ef_module.specs.Kinds as k;
+ghost use Rattle.ef_profile.specs.Kinds as k;
 ghost use Rattle.ef_module.specs.Refused.{token_faults};
-ghost use Rattle.ef_module.specs.Unbuilt as u;
+ghost use Rattle.ef_profile.specs.Unbuilt as u;
 
-use crate::attributes::mentions;
-use crate::kinds::{kind_of, not_spelled};
 use crate::refused::add_token_faults;
-use crate::unbuilt::add_tree_faults;
 use ef_base::{Fault, FaultList, Names, NoMemory};
 use ef_forms::{Form, form_nodes};
 use ef_parse::{Spelled, spelled_form, start_of};
+use ef_profile::{add_tree_faults, kind_of, mentions, not_spelled};
 use ef_token::Token;
 use std::alloc::Global;
 
@@ -117,7 +115,8 @@ fn find_kept(
     ensures { IfOk result (λ made. (all : Texts) → Extends names.now all → IsFound all tokens.now made found.new) }
 {
     add_heads(heads, found)?;
-    add_tree_faults(alloc, names, start_of(tokens), &form, found)?;
+    let place = start_of(tokens);
+    add_tree_faults(alloc, names, place, &form, tokens.len(), found)?;
     if !found.is_empty() {
         drop(form);
         return Ok(None);

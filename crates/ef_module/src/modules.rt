@@ -5,7 +5,7 @@ ghost use Rattle.ef_forms.specs.OfTable.{ModuleOf};
 ghost use Rattle.ef_forms.specs.Plain.{plain_form, plain_module, plain_placed};
 ghost use Rattle.ef_token.specs.TokenForm.{AllTokensOf, AreForms, TokensOf};
 ghost use Rattle.ef_token.specs.declared.token.Token.{Token as TheToken};
-ghost use Rattle.ef_module.specs.Adds.{Adds};
+ghost use Rattle.ef_profile.specs.Adds.{Adds};
 ghost use Rattle.ef_module.specs.Found.{AreFound, IsModuleFound};
 ghost use Rattle.ef_module.specs.Modules as m;
 ghost use Rattle.ef_module.specs.Modules.{lists};

@@ -2,16 +2,15 @@
 ghost use Rattle.std.specs.Prelude.{◌≡◌, false, OnOk, Some, map};
 ghost use Rattle.std.specs.List.{list_any};
 ghost use Rattle.ef_forms.specs.Plain.{plain_form, plain_placed};
-ghost use Rattle.ef_module.specs.Adds.{Adds};
+ghost use Rattle.ef_profile.specs.Adds.{Adds};
 ghost use Rattle.ef_module.specs.Modules as m;
 ghost use Rattle.ef_module.specs.Modules.{lists};
 
-use crate::add::add_if;
-use crate::kinds::kind_of;
 use ef_base::codes::{AFTER_FUNCTIONS, FORM_BEFORE_MODULE, SECOND_MODULE, TOO_MANY_FUNCTIONS};
 use ef_base::{Fault, FaultList, Name, Names, NoMemory, Place};
 use ef_forms::{Form, PlacedForm};
 use ef_parse::FormKind;
+use ef_profile::{add_if, kind_of};
 use ef_token::Token;
 use std::alloc::Global;
 
@@ -19,7 +18,7 @@ use std::alloc::Global;
 const MOST_FUNCTIONS: usize = 65_536;
 
 /// Adds the faults of the order and the number of forms. These are read; what was found before are the faults of the others.
-#[tactic(auto, using(crate::proofs::Adding::adds_then))]
+#[tactic(auto, using(ef_profile::proofs::Adding::adds_then))]
 pub fn add_order_faults(
     alloc: Global,
     names: &Names,
@@ -68,7 +67,7 @@ fn add_module_faults(
 }
 
 // Adds the fault of a module without an attribute, where it has none.
-#[tactic(auto, using(crate::proofs::Adding::adds_none))]
+#[tactic(auto, using(ef_profile::proofs::Adding::adds_none))]
 fn add_no_module(alloc: Global, has: bool, found: &mut FaultList) -> Result<(), NoMemory>
     ensures { OnOk result (Adds (m.no_module_faults has) found.old found.new) }
 {
@@ -128,7 +127,7 @@ fn has_module(forms: &[PlacedForm]) -> bool
     false
 }
 
-#[tactic(auto, using(crate::proofs::Adding::adds_none))]
+#[tactic(auto, using(ef_profile::proofs::Adding::adds_none))]
 fn add_before(alloc: Global, forms: &[PlacedForm], found: &mut FaultList) -> Result<(), NoMemory>
     ensures { OnOk result (Adds (m.before_module (map plain_placed forms.now)) found.old found.new) }
 {
@@ -195,7 +194,7 @@ fn add_late(alloc: Global, forms: &[PlacedForm], found: &mut FaultList) -> Resul
 }
 
 // Adds the fault of the form where it stands behind a function.
-#[tactic(auto, using(crate::proofs::Adding::adds_none))]
+#[tactic(auto, using(ef_profile::proofs::Adding::adds_none))]
 fn add_late_form(
     alloc: Global,
     seen: bool,
@@ -214,7 +213,7 @@ fn add_late_form(
     }
 }
 
-#[tactic(auto, using(crate::proofs::Adding::adds_one))]
+#[tactic(auto, using(ef_profile::proofs::Adding::adds_one))]
 fn add_late_word(
     alloc: Global,
     place: Place,

@@ -1,17 +1,17 @@
 // Tokens that are refused before a form is read.
 ghost use Rattle.std.specs.Prelude.{◌≡◌, ◌<◌, ◌^◌, ◌-◌, OnOk, None};
-ghost use Rattle.ef_module.specs.Adds.{Adds};
+ghost use Rattle.ef_profile.specs.Adds.{Adds};
 ghost use Rattle.ef_module.specs.Refused as r;
 
-use crate::kinds::kind_of;
 use ef_base::codes::{MAP, STRICT_GENERATOR, ZIP_GENERATOR};
 use ef_base::{Fault, FaultList, Names, NoMemory, Place};
 use ef_parse::FormKind;
+use ef_profile::kind_of;
 use ef_token::{Sym, Token, TokenKind};
 use std::alloc::Global;
 
 /// Adds the faults of the tokens of a form, in one pass.
-#[tactic(auto, using(crate::proofs::Adding::adds_none))]
+#[tactic(auto, using(ef_profile::proofs::Adding::adds_none))]
 pub fn add_token_faults(
     alloc: Global,
     names: &Names,
@@ -46,7 +46,7 @@ fn add_refused(
 }
 
 // Nothing is added inside a type.
-#[tactic(auto, using(crate::proofs::Adding::adds_none))]
+#[tactic(auto, using(ef_profile::proofs::Adding::adds_none))]
 fn add_outside(
     alloc: Global,
     depth: Option<usize>,
@@ -62,7 +62,7 @@ fn add_outside(
     }
 }
 
-#[tactic(auto, using(crate::proofs::Adding::adds_none, crate::proofs::Adding::adds_one))]
+#[tactic(auto, using(ef_profile::proofs::Adding::adds_none, ef_profile::proofs::Adding::adds_one))]
 fn add_fault(
     alloc: Global,
     code: Option<u16>,

@@ -1,5 +1,5 @@
 use Rattle.std.proofs.Common.{[], ◌∷◌}
-use Rattle.ef_module.proofs.Adding.{adds_one, adds_then}
+use Rattle.ef_profile.proofs.Adding.{adds_one, adds_then}
 use Rattle.ef_module.proofs.forms.add_heads.Goals as goal
 
 pub loop-fault-preserved : goal.loop-fault-preserved

@@ -1,7 +1,7 @@
 use Rattle.std.proofs.Common.{List, length, map, false}
 use Rattle.ef_base.specs.declared.fault.Fault.{Fault}
 use Rattle.ef_forms.specs.Plain.{plain_placed}
-use Rattle.ef_module.specs.Adds.{Adds}
+use Rattle.ef_profile.specs.Adds.{Adds}
 use Rattle.ef_module.specs.Modules.{late_faults}
 use Rattle.ef_module.proofs.order.add_late.Given as goal
 

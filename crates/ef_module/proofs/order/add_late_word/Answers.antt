@@ -3,7 +3,7 @@ use Rattle.std.proofs.lemmas.Result.{on_ok_weaker}
 use Rattle.ef_base.specs.Faults.{insert_fault}
 use Rattle.ef_base.specs.FaultTable as table
 use Rattle.ef_base.specs.NamedFaults.{naming}
-use Rattle.ef_module.proofs.Adding.{adds_one}
+use Rattle.ef_profile.proofs.Adding.{adds_one}
 use Rattle.ef_module.proofs.order.add_late_word.Goals as goal
 
 pub returns : goal.returns

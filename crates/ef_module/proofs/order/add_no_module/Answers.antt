@@ -1,9 +1,9 @@
 use Rattle.std.proofs.Common.{sym, subst, ap, ◌∙◌}
 use Rattle.ef_base.specs.Faults.{insert_fault}
 use Rattle.ef_base.specs.NamedFaults.{no_module}
-use Rattle.ef_module.specs.Adds.{Adds}
+use Rattle.ef_profile.specs.Adds.{Adds}
 use Rattle.ef_module.specs.Modules.{no_module_faults}
-use Rattle.ef_module.proofs.Adding.{adds_one}
+use Rattle.ef_profile.proofs.Adding.{adds_one}
 use Rattle.ef_module.proofs.order.add_no_module.Goals as goal
 
 pub returns-in_ok-push : goal.returns-in_ok-push

@@ -3,8 +3,8 @@ use Rattle.std.proofs.lemmas.Result.{on_ok_weaker}
 use Rattle.ef_base.specs.Faults.{insert_fault}
 use Rattle.ef_base.specs.FaultTable as table
 use Rattle.ef_base.specs.NamedFaults.{plain}
-use Rattle.ef_module.specs.Adds.{Adds}
-use Rattle.ef_module.proofs.Adding.{adds_none, adds_one}
+use Rattle.ef_profile.specs.Adds.{Adds}
+use Rattle.ef_profile.proofs.Adding.{adds_none, adds_one}
 use Rattle.ef_module.proofs.Rests.{number_last, number_end}
 use Rattle.ef_module.proofs.order.add_number.Goals as goal
 

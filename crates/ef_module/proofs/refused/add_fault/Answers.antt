@@ -1,9 +1,9 @@
 use Rattle.std.proofs.Common.{sym, subst, ap, ◌∙◌}
 use Rattle.ef_base.specs.Faults.{insert_fault}
 use Rattle.ef_base.specs.NamedFaults as fault
-use Rattle.ef_module.specs.Adds.{Adds}
+use Rattle.ef_profile.specs.Adds.{Adds}
 use Rattle.ef_module.specs.Refused.{refusal}
-use Rattle.ef_module.proofs.Adding.{adds_one}
+use Rattle.ef_profile.proofs.Adding.{adds_one}
 use Rattle.ef_module.proofs.refused.add_fault.Goals as goal
 
 pub returns-in_ok-push : goal.returns-in_ok-push

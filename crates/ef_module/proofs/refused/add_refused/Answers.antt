@@ -1,5 +1,5 @@
 use Rattle.std.proofs.Common.{ap, subst, length, slice_range}
-use Rattle.ef_module.specs.Adds.{Adds}
+use Rattle.ef_profile.specs.Adds.{Adds}
 use Rattle.ef_module.specs.Refused.{refused_from}
 use Rattle.ef_module.proofs.Depths.{fits_next}
 use Rattle.ef_module.proofs.Rests.{front_range, refused_step, refused_end}

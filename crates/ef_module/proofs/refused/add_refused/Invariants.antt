@@ -1,6 +1,6 @@
 use Rattle.std.proofs.Common.{◌+◌, ◌≤◌, List, length, None}
 use Rattle.ef_base.specs.declared.fault.Fault.{Fault}
-use Rattle.ef_module.specs.Adds.{Adds}
+use Rattle.ef_profile.specs.Adds.{Adds}
 use Rattle.ef_module.specs.Refused.{depth_of, refused_from}
 use Rattle.ef_module.proofs.refused.add_refused.Given as goal
 

@@ -1,0 +1,3 @@
+pub mod Kinds
+pub mod Unbuilt
+pub mod Adds

@@ -4,6 +4,8 @@
 #[cfg(test)]
 mod adapters;
 #[cfg(test)]
+mod steady;
+#[cfg(test)]
 mod tokens;
 #[cfg(test)]
 mod trees;

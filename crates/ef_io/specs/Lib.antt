@@ -8,3 +8,4 @@ pub mod MemorySink
 pub mod MemoryOutput
 pub mod Files
 pub mod Laws
+pub mod Steady

@@ -11,6 +11,7 @@ mod out_sink;
 mod sink;
 mod sources;
 mod status;
+mod steady;
 mod store;
 mod whole;
 
@@ -23,4 +24,5 @@ pub use out_sink::OutSink;
 pub use sink::{Failed, Output, Sink};
 pub use sources::{ReadRefusal, Sources};
 pub use status::Status;
+pub use steady::{SteadySink, SteadySources};
 pub use whole::{put, put_parts};

@@ -74,8 +74,8 @@ impl Sources for MemorySources {
     }
 }
 
-// The content of the first file of this path.
-fn find<'a>(files: &'a [MemoryFile], path: &str) -> Option<&'a Bytes>
+/// The content of the first file of this path.
+pub(crate) fn find<'a>(files: &'a [MemoryFile], path: &str) -> Option<&'a Bytes>
     ensures { option_copied result ≡ files_of files.now path.now }
 {
     for file in files {

@@ -1,0 +1,4 @@
+pub mod Tops
+pub mod Alike
+pub mod OneVerdict
+pub mod Powers

@@ -1,0 +1,10 @@
+pub mod Classes
+pub mod Rules
+pub mod Tables
+pub mod Sound
+pub mod Values
+pub mod Numbers
+pub mod Operators
+pub mod Actions
+pub mod Condition
+pub mod Verdict
